@@ -1,0 +1,5 @@
+pub mod Totals
+pub mod Choosing
+pub mod Stacking
+pub mod Counting
+pub mod Verdicts

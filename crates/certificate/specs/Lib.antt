@@ -1,0 +1,3 @@
+pub mod Allowance
+pub mod Marking
+pub mod Levels

@@ -1,0 +1,41 @@
+// The marking test, for every supply and every number.
+ghost use mathlib.Core.Path.{_≡_};
+ghost use lib.Dec.{leb};
+ghost use Rattle.std.specs.Orderings.{When};
+ghost use Rattle.certificate.specs.Marking.{least-yield, LeastYield, Passes, Fails, least-ceiling, LeastCeiling};
+use crate::levels::least_yields;
+use crate::span::Span;
+use cores::Supply;
+use cores::WIDEST;
+
+impl Span {
+    // The least that any marking of these ticks yields under the ceiling.
+    pub fn least_yield<S: Supply>(&self, supply: &S, ceiling: u8) -> u64
+        ensures value { λ r. ⌜ r ≡ least-yield (S·Supply .width (now (supply .entry))) (now (self .entry)) ceiling ⌝ }
+        ensures smallest { λ r. ⌜ LeastYield (S·Supply .width (now (supply .entry))) (now (self .entry)) ceiling r ⌝ }
+    {
+        least_yields(supply, self)[usize::from(ceiling.min(WIDEST))]
+    }
+
+    // Whether every marking of these ticks yields at least the work under the ceiling.
+    pub fn passes<S: Supply>(&self, supply: &S, ceiling: u8, work: u64) -> bool
+        ensures value { λ r. ⌜ r ≡ leb work (least-yield (S·Supply .width (now (supply .entry))) (now (self .entry)) ceiling) ⌝ }
+        ensures verdict { λ r. ⌜ When r (Passes (S·Supply .width (now (supply .entry))) (now (self .entry)) ceiling work) (Fails (S·Supply .width (now (supply .entry))) (now (self .entry)) ceiling work) ⌝ }
+    {
+        self.least_yield(supply, ceiling) >= work
+    }
+
+    // The least ceiling from 1 to 64 under which the test passes.
+    pub fn least_ceiling<S: Supply>(&self, supply: &S, work: u64) -> Option<u8>
+        ensures value { λ r. ⌜ r ≡ least-ceiling (S·Supply .width (now (supply .entry))) (now (self .entry)) work ⌝ }
+        ensures smallest { λ r. ⌜ LeastCeiling (S·Supply .width (now (supply .entry))) (now (self .entry)) work r ⌝ }
+    {
+        let yields = least_yields(supply, self);
+        for ceiling in 1..=WIDEST {
+            if yields[usize::from(ceiling)] >= work {
+                return Some(ceiling);
+            }
+        }
+        None
+    }
+}

@@ -1,0 +1,112 @@
+// The marking test on worked numbers and at its edges.
+use crate::Span;
+use cores::Block;
+use cores::Flat;
+use cores::FlatSupply;
+use cores::HoldBack;
+use cores::HoldBackSupply;
+use cores::Ladder;
+use cores::LadderSupply;
+use std::test::*;
+
+// A job from tick 0 on a ladder, and what is to come out.
+fn worked(
+    blocks: &[Block],
+    volume: u64,
+    length: u32,
+    deadline: u32,
+    least: u64,
+    certified: bool,
+) -> Result<(), Fail> {
+    let span = Span {
+        first: 0,
+        deadline,
+        length,
+    };
+    let ladder = Ladder::new(blocks);
+    check_eq(span.least_yield(&ladder, 64), least)?;
+    check_eq(span.passes(&ladder, 64, volume), certified)?;
+    check_eq(span.least_ceiling(&ladder, volume).is_some(), certified)
+}
+
+fn block(cores: u8, ticks: u16) -> Block {
+    Block { cores, ticks }
+}
+
+#[test]
+fn worked_jobs() -> Result<(), Fail> {
+    worked(&[block(2, 9), block(3, 6)], 26, 5, 15, 26, true)?;
+    worked(&[block(2, 10), block(3, 5)], 26, 5, 15, 25, false)?;
+    worked(&[block(2, 15)], 26, 5, 15, 25, false)?;
+    worked(&[block(1, 1), block(3, 1), block(3, 3)], 9, 2, 5, 9, true)?;
+    worked(&[block(4, 7)], 10, 6, 7, 10, true)?;
+    worked(&[block(3, 7)], 10, 6, 7, 9, false)?;
+    worked(&[block(4, 5)], 5, 5, 5, 5, true)?;
+    worked(&[block(4, 5)], 6, 5, 5, 5, false)?;
+    worked(&[block(4, 2)], 3, 3, 2, 2, false)?;
+    worked(&[block(1, 1)], 1, 1, 1, 1, true)
+}
+
+#[test]
+fn widest_ticks_are_marked_and_not_the_last() -> Result<(), Fail> {
+    // Marking the last five ticks would give 31.
+    worked(&[block(3, 6), block(2, 9)], 26, 5, 15, 26, true)
+}
+
+#[test]
+fn ceilings() -> Result<(), Fail> {
+    let span = Span {
+        first: 0,
+        deadline: 10,
+        length: 7,
+    };
+    let supply = Flat::new(255);
+    check_eq(span.least_yield(&supply, 0), 0)?;
+    check_eq(span.least_yield(&supply, 1), 10)?;
+    check_eq(span.least_yield(&supply, 2), 13)?;
+    check_eq(span.least_yield(&supply, 64), 199)?;
+    check_eq(span.least_yield(&supply, 255), 199)?;
+    check_eq(span.least_ceiling(&supply, 0), Some(1))?;
+    check_eq(span.least_ceiling(&supply, 10), Some(1))?;
+    check_eq(span.least_ceiling(&supply, 11), Some(2))?;
+    check_eq(span.least_ceiling(&supply, 199), Some(64))?;
+    check_eq(span.least_ceiling(&supply, 200), None)?;
+    check_eq(span.least_ceiling(&supply, u64::MAX), None)
+}
+
+// The least yield of three cores in each of the ticks.
+fn on_three(first: u32, deadline: u32, length: u32) -> u64 {
+    let span = Span {
+        first,
+        deadline,
+        length,
+    };
+    span.least_yield(&Flat::new(3), 64)
+}
+
+#[test]
+fn lengths_and_ranges() -> Result<(), Fail> {
+    check_eq(on_three(0, 10, 0), 30)?;
+    check_eq(on_three(0, 10, 10), 10)?;
+    check_eq(on_three(0, 10, 11), 10)?;
+    check_eq(on_three(0, 10, u32::MAX), 10)?;
+    check_eq(on_three(5, 10, 2), 11)?;
+    check_eq(on_three(10, 10, 2), 0)?;
+    check_eq(on_three(11, 10, 2), 0)?;
+    check_eq(on_three(u32::MAX, 0, 0), 0)?;
+    check_eq(on_three(u32::MAX - 2, u32::MAX, 1), 4)
+}
+
+#[test]
+fn ticks_without_cores_yield_nothing() -> Result<(), Fail> {
+    // Marking a tick without cores would gain a tick, so none is marked.
+    let span = Span {
+        first: 0,
+        deadline: 6,
+        length: 4,
+    };
+    let supply = HoldBack::new(Flat::new(2), 2, 2, 4);
+    check_eq(span.least_yield(&supply, 64), 4)?;
+    check_eq(span.least_ceiling(&supply, 4), Some(1))?;
+    check_eq(span.least_ceiling(&supply, 5), None)
+}
