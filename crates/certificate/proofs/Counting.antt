@@ -10,7 +10,8 @@ use lib.ListN.{length, getD, set}
 use lib.Seq.{getD-set-same, getD-set-other}
 use Rattle.std.proofs.shelf.Tests.{cases-eq, cases-order, eq-eqb, ne-eqb, le-leb, lt-leb}
 use Rattle.certificate.specs.Marking.{one-if, total}
-use Rattle.certificate.specs.Levels.{exactly, reaching}
+use Rattle.certificate.specs.Widths.{exactly}
+use Rattle.certificate.proofs.Heights.{reaching}
 use Rattle.certificate.proofs.Totals.{total-push, total-few}
 
 one-if-few : (test : Bool) → one-if test ≤ 1

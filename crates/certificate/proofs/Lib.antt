@@ -1,3 +1,4 @@
+pub mod Heights
 pub mod Totals
 pub mod Choosing
 pub mod Stacking

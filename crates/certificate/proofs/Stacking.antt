@@ -9,7 +9,7 @@ use lib.Dec.{leb}
 use Rattle.std.proofs.shelf.Tests.{cases-lt}
 use Rattle.std.proofs.shelf.Ways.{leb-tells}
 use Rattle.certificate.specs.Marking.{one-if, offered, least}
-use Rattle.certificate.specs.Levels.{reaching, stacked}
+use Rattle.certificate.proofs.Heights.{reaching, stacked}
 use Rattle.certificate.proofs.Totals.{total-le}
 
 -- a tick of this width counts at a level or does not

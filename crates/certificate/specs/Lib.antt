@@ -1,3 +1,3 @@
 pub mod Allowance
 pub mod Marking
-pub mod Levels
+pub mod Widths

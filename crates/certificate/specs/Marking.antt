@@ -1,4 +1,4 @@
--- The marking test. The supply is given by its width at each tick.
+-- The marking test. The supply is given by its width at each tick. A difference stops at 0.
 use mathlib.Core.Path.{_≡_}
 use mathlib.Core.Bool.{Bool, cond}
 use Prim.Native.Nat.{ℕ, zero, suc, _+_, _-_, _≤_, _<_, min}
@@ -6,20 +6,20 @@ use lib.Dec.{leb}
 use Rattle.std.specs.declared.option.Option.{Option}
 use Rattle.std.specs.declared.option.Option.the-variants.{Some, None}
 use Rattle.certificate.specs.Allowance.{allowance}
-use Rattle.certificate.specs.declared.span.Span.{Span}
+use Rattle.certificate.specs.declared.marking_test.MarkingTest.{MarkingTest}
 
 -- The sum of a quantity over `count` ticks, from `first` on.
 abbrev pub total : (ℕ → ℕ) → ℕ → ℕ → ℕ
 total quantity first zero = 0
 total quantity first (suc count) = quantity first + total quantity (suc first) count
 
--- 1 where a test is true, else 0.
+-- 1 where something is so, else 0.
 abbrev pub one-if : Bool → ℕ
-one-if test = cond test 1 0
+one-if so = cond so 1 0
 
 -- How many ticks there are from the first up to the one before the deadline: none where the deadline is at or before the first.
-abbrev pub ticks : Span → ℕ
-ticks span = span .deadline - span .first
+abbrev pub ticks : MarkingTest → ℕ
+ticks test = test .deadline - test .first
 
 -- The offered width at a tick: the lesser of the ceiling and the supply's width.
 abbrev pub offered : (ℕ → ℕ) → ℕ → ℕ → ℕ
@@ -29,26 +29,26 @@ offered width ceiling tick = min ceiling (width tick)
 abbrev pub Marking : Type 0
 Marking = ℕ → Bool
 
--- How many ticks of the span a marking marks.
-abbrev pub marks : Span → Marking → ℕ
-marks span marking = total (λ tick. one-if (marking tick)) (span .first) (ticks span)
+-- How many ticks of the test a marking marks.
+abbrev pub marks : MarkingTest → Marking → ℕ
+marks test marking = total (λ tick. one-if (marking tick)) (test .first) (ticks test)
 
 -- A marking marks at most as many ticks as the length allows.
-abbrev pub Allowed : Span → Marking → Type 0
-Allowed span marking = marks span marking ≤ allowance (span .length)
+abbrev pub Allowed : MarkingTest → Marking → Type 0
+Allowed test marking = marks test marking ≤ allowance (test .length)
 
--- The yield of a marking: 1 for each marked tick of the span and the offered width for each other one.
-abbrev pub yield : (ℕ → ℕ) → Span → ℕ → Marking → ℕ
-yield width span ceiling marking =
-    total (λ tick. cond (marking tick) 1 (offered width ceiling tick)) (span .first) (ticks span)
+-- The yield of a marking: 1 for each marked tick of the test and the offered width for each other one.
+abbrev pub yield : (ℕ → ℕ) → MarkingTest → ℕ → Marking → ℕ
+yield width test ceiling marking =
+    total (λ tick. cond (marking tick) 1 (offered width ceiling tick)) (test .first) (ticks test)
 
 -- The test passes: every marking yields at least the work.
-abbrev pub Passes : (ℕ → ℕ) → Span → ℕ → ℕ → Type 0
-Passes width span ceiling work = (marking : Marking) → Allowed span marking → work ≤ yield width span ceiling marking
+abbrev pub Passes : (ℕ → ℕ) → MarkingTest → ℕ → ℕ → Type 0
+Passes width test ceiling work = (marking : Marking) → Allowed test marking → work ≤ yield width test ceiling marking
 
 -- The test fails: some marking yields less than the work.
-abbrev pub Fails : (ℕ → ℕ) → Span → ℕ → ℕ → Type 0
-Fails width span ceiling work = (marking : Marking) × Allowed span marking × (yield width span ceiling marking < work)
+abbrev pub Fails : (ℕ → ℕ) → MarkingTest → ℕ → ℕ → Type 0
+Fails width test ceiling work = (marking : Marking) × Allowed test marking × (yield width test ceiling marking < work)
 
 -- The least that `count` ticks from `first` on yield with at most `allowed` of them marked, by a choice at each tick: to mark it, or not.
 unfoldable pub least : (ℕ → ℕ) → ℕ → ℕ → ℕ → ℕ
@@ -57,18 +57,18 @@ least offer zero first (suc count) = offer first + least offer zero (suc first) 
 least offer (suc allowed) first (suc count) =
     min (1 + least offer allowed (suc first) count) (offer first + least offer (suc allowed) (suc first) count)
 
--- The least yield of the span under a ceiling.
-abbrev pub least-yield : (ℕ → ℕ) → Span → ℕ → ℕ
-least-yield width span ceiling = least (offered width ceiling) (allowance (span .length)) (span .first) (ticks span)
+-- The least yield of the test under a ceiling.
+abbrev pub least-yield : (ℕ → ℕ) → MarkingTest → ℕ → ℕ
+least-yield width test ceiling = least (offered width ceiling) (allowance (test .length)) (test .first) (ticks test)
 
--- What makes a number the least yield: no marking yields less, and some marking yields it.
--- Under ceiling 0 it is 0, a ceiling above 64 is as 64, and it does not fall as the ceiling rises.
-pub record LeastYield (width : ℕ → ℕ) (span : Span) (ceiling least : ℕ) : Type 0 where
-  pub bounds : (marking : Marking) → Allowed span marking → least ≤ yield width span ceiling marking
-  pub reached : (marking : Marking) × Allowed span marking × (yield width span ceiling marking ≡ least)
-  pub closed : ceiling ≡ 0 → least ≡ 0
-  pub capped : 64 ≤ ceiling → least ≡ least-yield width span 64
-  pub rises : (lower : ℕ) → lower ≤ ceiling → least-yield width span lower ≤ least
+-- What makes a number the least yield: no marking yields less, and some marking yields it. That alone fixes the number.
+-- Besides, it is 0 under ceiling 0, a ceiling above 64 is as 64, and it does not fall as the ceiling rises.
+pub record LeastYield (width : ℕ → ℕ) (test : MarkingTest) (ceiling answer : ℕ) : Type 0 where
+  pub bounds : (marking : Marking) → Allowed test marking → answer ≤ yield width test ceiling marking
+  pub reached : (marking : Marking) × Allowed test marking × (yield width test ceiling marking ≡ answer)
+  pub under-0 : ceiling ≡ 0 → answer ≡ 0
+  pub above-64 : 64 ≤ ceiling → answer ≡ least-yield width test 64
+  pub rises : (lower : ℕ) → lower ≤ ceiling → least-yield width test lower ≤ answer
 
 -- The first of `count` ceilings, from `ceiling` on, under which the least yield is at least the work.
 unfoldable pub first-enough : (ℕ → ℕ) → ℕ → ℕ → ℕ → Option ℕ
@@ -77,19 +77,20 @@ first-enough yields work ceiling (suc count) =
     let later = first-enough yields work (suc ceiling) count in cond (leb work (yields ceiling)) (Some ceiling) later
 
 -- The least ceiling from 1 to 64 under which the test passes, if there is one.
-abbrev pub least-ceiling : (ℕ → ℕ) → Span → ℕ → Option ℕ
-least-ceiling width span work = first-enough (least-yield width span) work 1 64
+abbrev pub least-ceiling : (ℕ → ℕ) → MarkingTest → ℕ → Option ℕ
+least-ceiling width test work = first-enough (least-yield width test) work 1 64
 
 -- What makes a ceiling the least: the test passes under it, and fails under each smaller one from 1 on, and under 0 where there is work.
-pub record Smallest (width : ℕ → ℕ) (span : Span) (work ceiling : ℕ) : Type 0 where
+-- It passes under 64 too, so that none is answered only where 64 fails.
+pub record Smallest (width : ℕ → ℕ) (test : MarkingTest) (work ceiling : ℕ) : Type 0 where
   pub at-least-one : 1 ≤ ceiling
   pub at-most-64 : ceiling ≤ 64
-  pub passes : Passes width span ceiling work
-  pub widest-passes : Passes width span 64 work
-  pub smaller-fail : (lower : ℕ) → 1 ≤ lower → lower < ceiling → Fails width span lower work
-  pub zero-fails : 0 < work → Fails width span 0 work
+  pub passes : Passes width test ceiling work
+  pub widest-passes : Passes width test 64 work
+  pub smaller-fail : (lower : ℕ) → 1 ≤ lower → lower < ceiling → Fails width test lower work
+  pub zero-fails : 0 < work → Fails width test 0 work
 
 -- A ceiling is answered if it is the least; none just where the test fails even under 64.
-abbrev pub LeastCeiling : (ℕ → ℕ) → Span → ℕ → Option ℕ → Type 0
-LeastCeiling width span work (Some ceiling) = Smallest width span work ceiling
-LeastCeiling width span work None = Fails width span 64 work
+abbrev pub LeastCeiling : (ℕ → ℕ) → MarkingTest → ℕ → Option ℕ → Type 0
+LeastCeiling width test work (Some ceiling) = Smallest width test work ceiling
+LeastCeiling width test work None = Fails width test 64 work

@@ -3,9 +3,9 @@ ghost use mathlib.Core.Path.{_≡_};
 ghost use Prim.Native.Nat.{ℕ, _≤_};
 ghost use lib.ListN.{length, getD};
 ghost use Rattle.certificate.specs.Allowance.{allowance};
-ghost use Rattle.certificate.specs.Levels.{exactly};
+ghost use Rattle.certificate.specs.Widths.{exactly};
 ghost use Rattle.certificate.specs.Marking.{least-yield, ticks};
-use crate::span::Span;
+use crate::marking_test::MarkingTest;
 use cores::Supply;
 
 // One place for each width from 0 to the widest.
@@ -20,13 +20,13 @@ fn marks_allowed(length: u32) -> u32
     length
 }
 
-// How many ticks of the span have each width.
-fn histogram<S: Supply>(supply: &S, span: &Span) -> [u32; WIDTHS]
+// How many ticks of the test have each width.
+fn histogram<S: Supply>(supply: &S, test: &MarkingTest) -> [u32; WIDTHS]
     ensures size { λ r. ⌜ length r ≡ 65 ⌝ }
-    ensures counts { λ r. ⌜ ((cores : ℕ) → cores ≤ 64 → getD r cores 0 ≡ exactly (S·Supply .width (now (supply .entry))) (now (span .entry) .first) (ticks (now (span .entry))) cores) ⌝ }
+    ensures counts { λ r. ⌜ ((cores : ℕ) → cores ≤ 64 → getD r cores 0 ≡ exactly (S·Supply .width (now (supply .entry))) (now (test .entry) .first) (ticks (now (test .entry))) cores) ⌝ }
 {
     let mut counts = [0; WIDTHS];
-    for tick in span.first..span.deadline {
+    for tick in test.first..test.deadline {
         counts[usize::from(supply.width_at(tick))] += 1;
     }
     counts
@@ -34,13 +34,13 @@ fn histogram<S: Supply>(supply: &S, span: &Span) -> [u32; WIDTHS]
 
 // The least yield under each ceiling from 0 to 64, as the sum of the levels up to it.
 // A tick reaches level j where its width is at least j. Marking a tick costs one tick of every level that it reaches but the first.
-pub(crate) fn least_yields<S: Supply>(supply: &S, span: &Span) -> [u64; WIDTHS]
+pub(crate) fn least_yields<S: Supply>(supply: &S, test: &MarkingTest) -> [u64; WIDTHS]
     ensures size { λ r. ⌜ length r ≡ 65 ⌝ }
-    ensures yields { λ r. ⌜ ((ceiling : ℕ) → ceiling ≤ 64 → getD r ceiling 0 ≡ least-yield (S·Supply .width (now (supply .entry))) (now (span .entry)) ceiling) ⌝ }
+    ensures yields { λ r. ⌜ ((ceiling : ℕ) → ceiling ≤ 64 → getD r ceiling 0 ≡ least-yield (S·Supply .width (now (supply .entry))) (now (test .entry)) ceiling) ⌝ }
 {
-    let counts = histogram(supply, span);
-    let allowed = marks_allowed(span.length);
-    let ticks = span.deadline.saturating_sub(span.first);
+    let counts = histogram(supply, test);
+    let allowed = marks_allowed(test.length);
+    let ticks = test.deadline.saturating_sub(test.first);
     let mut level = ticks - counts[0];
     let mut sum = u64::from(level);
     let mut yields = [0; WIDTHS];

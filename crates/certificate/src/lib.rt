@@ -1,8 +1,7 @@
 // The marking test: whether a job is sure to have its work done by its deadline.
 mod levels;
-mod marking;
-mod span;
+mod marking_test;
 #[cfg(test)]
 mod tests;
 
-pub use span::Span;
+pub use marking_test::MarkingTest;

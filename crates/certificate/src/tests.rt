@@ -1,5 +1,5 @@
 // The marking test on worked numbers and at its edges.
-use crate::Span;
+use crate::MarkingTest;
 use cores::Block;
 use cores::Flat;
 use cores::FlatSupply;
@@ -9,24 +9,24 @@ use cores::Ladder;
 use cores::LadderSupply;
 use std::test::*;
 
-// A job from tick 0 on a ladder, and what is to come out.
+// A job from tick 0 on a ladder: its least yield, and the least ceiling under which it passes, if any.
 fn worked(
     blocks: &[Block],
     volume: u64,
     length: u32,
     deadline: u32,
     least: u64,
-    certified: bool,
+    ceiling: Option<u8>,
 ) -> Result<(), Fail> {
-    let span = Span {
+    let test = MarkingTest {
         first: 0,
         deadline,
         length,
     };
     let ladder = Ladder::new(blocks);
-    check_eq(span.least_yield(&ladder, 64), least)?;
-    check_eq(span.passes(&ladder, 64, volume), certified)?;
-    check_eq(span.least_ceiling(&ladder, volume).is_some(), certified)
+    check_eq(test.least_yield(&ladder, 64), least)?;
+    check_eq(test.passes(&ladder, 64, volume), ceiling.is_some())?;
+    check_eq(test.least_ceiling(&ladder, volume), ceiling)
 }
 
 fn block(cores: u8, ticks: u16) -> Block {
@@ -35,53 +35,72 @@ fn block(cores: u8, ticks: u16) -> Block {
 
 #[test]
 fn worked_jobs() -> Result<(), Fail> {
-    worked(&[block(2, 9), block(3, 6)], 26, 5, 15, 26, true)?;
-    worked(&[block(2, 10), block(3, 5)], 26, 5, 15, 25, false)?;
-    worked(&[block(2, 15)], 26, 5, 15, 25, false)?;
-    worked(&[block(1, 1), block(3, 1), block(3, 3)], 9, 2, 5, 9, true)?;
-    worked(&[block(4, 7)], 10, 6, 7, 10, true)?;
-    worked(&[block(3, 7)], 10, 6, 7, 9, false)?;
-    worked(&[block(4, 5)], 5, 5, 5, 5, true)?;
-    worked(&[block(4, 5)], 6, 5, 5, 5, false)?;
-    worked(&[block(4, 2)], 3, 3, 2, 2, false)?;
-    worked(&[block(1, 1)], 1, 1, 1, 1, true)
+    worked(&[block(2, 9), block(3, 6)], 26, 5, 15, 26, Some(3))?;
+    worked(&[block(2, 10), block(3, 5)], 26, 5, 15, 25, None)?;
+    worked(&[block(2, 15)], 26, 5, 15, 25, None)?;
+    worked(
+        &[block(1, 1), block(3, 1), block(3, 3)],
+        9,
+        2,
+        5,
+        9,
+        Some(3),
+    )?;
+    worked(&[block(4, 7)], 10, 6, 7, 10, Some(4))?;
+    worked(&[block(3, 7)], 10, 6, 7, 9, None)?;
+    worked(&[block(4, 5)], 5, 5, 5, 5, Some(1))?;
+    worked(&[block(4, 5)], 6, 5, 5, 5, None)?;
+    worked(&[block(4, 2)], 3, 3, 2, 2, None)?;
+    worked(&[block(1, 1)], 1, 1, 1, 1, Some(1))
 }
 
 #[test]
 fn widest_ticks_are_marked_and_not_the_last() -> Result<(), Fail> {
     // Marking the last five ticks would give 31.
-    worked(&[block(3, 6), block(2, 9)], 26, 5, 15, 26, true)
+    worked(&[block(3, 6), block(2, 9)], 26, 5, 15, 26, Some(3))
+}
+
+#[test]
+fn ladders_shorter_and_longer_than_the_deadline() -> Result<(), Fail> {
+    worked(&[block(2, 4)], 7, 1, 10, 7, Some(2))?;
+    worked(&[block(2, 40)], 19, 1, 10, 19, Some(2))
 }
 
 #[test]
 fn ceilings() -> Result<(), Fail> {
-    let span = Span {
+    let test = MarkingTest {
         first: 0,
         deadline: 10,
         length: 7,
     };
     let supply = Flat::new(255);
-    check_eq(span.least_yield(&supply, 0), 0)?;
-    check_eq(span.least_yield(&supply, 1), 10)?;
-    check_eq(span.least_yield(&supply, 2), 13)?;
-    check_eq(span.least_yield(&supply, 64), 199)?;
-    check_eq(span.least_yield(&supply, 255), 199)?;
-    check_eq(span.least_ceiling(&supply, 0), Some(1))?;
-    check_eq(span.least_ceiling(&supply, 10), Some(1))?;
-    check_eq(span.least_ceiling(&supply, 11), Some(2))?;
-    check_eq(span.least_ceiling(&supply, 199), Some(64))?;
-    check_eq(span.least_ceiling(&supply, 200), None)?;
-    check_eq(span.least_ceiling(&supply, u64::MAX), None)
+    check_eq(test.least_yield(&supply, 0), 0)?;
+    check_eq(test.least_yield(&supply, 1), 10)?;
+    check_eq(test.least_yield(&supply, 2), 13)?;
+    check_eq(test.least_yield(&supply, 64), 199)?;
+    check_eq(test.least_yield(&supply, 255), 199)?;
+    check(test.passes(&supply, 0, 0))?;
+    check(!test.passes(&supply, 0, 1))?;
+    check(test.passes(&supply, 2, 13))?;
+    check(!test.passes(&supply, 2, 14))?;
+    check(test.passes(&supply, 255, 199))?;
+    check(!test.passes(&supply, 255, 200))?;
+    check_eq(test.least_ceiling(&supply, 0), Some(1))?;
+    check_eq(test.least_ceiling(&supply, 10), Some(1))?;
+    check_eq(test.least_ceiling(&supply, 11), Some(2))?;
+    check_eq(test.least_ceiling(&supply, 199), Some(64))?;
+    check_eq(test.least_ceiling(&supply, 200), None)?;
+    check_eq(test.least_ceiling(&supply, u64::MAX), None)
 }
 
 // The least yield of three cores in each of the ticks.
 fn on_three(first: u32, deadline: u32, length: u32) -> u64 {
-    let span = Span {
+    let test = MarkingTest {
         first,
         deadline,
         length,
     };
-    span.least_yield(&Flat::new(3), 64)
+    test.least_yield(&Flat::new(3), 64)
 }
 
 #[test]
@@ -100,13 +119,13 @@ fn lengths_and_ranges() -> Result<(), Fail> {
 #[test]
 fn ticks_without_cores_yield_nothing() -> Result<(), Fail> {
     // Marking a tick without cores would gain a tick, so none is marked.
-    let span = Span {
+    let test = MarkingTest {
         first: 0,
         deadline: 6,
         length: 4,
     };
     let supply = HoldBack::new(Flat::new(2), 2, 2, 4);
-    check_eq(span.least_yield(&supply, 64), 4)?;
-    check_eq(span.least_ceiling(&supply, 4), Some(1))?;
-    check_eq(span.least_ceiling(&supply, 5), None)
+    check_eq(test.least_yield(&supply, 64), 4)?;
+    check_eq(test.least_ceiling(&supply, 4), Some(1))?;
+    check_eq(test.least_ceiling(&supply, 5), None)
 }

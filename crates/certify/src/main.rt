@@ -2,8 +2,8 @@
 ghost use mathlib.Core.Path.{_≡_};
 ghost use Rattle.std.specs.Orderings.{When};
 ghost use Rattle.certificate.specs.Marking.{least-yield, Passes, Fails};
-ghost use Rattle.certify.specs.Jobs.{whole-span};
-use certificate::Span;
+ghost use Rattle.certify.specs.Jobs.{whole-test};
+use certificate::MarkingTest;
 use cores::Block;
 use cores::Ladder;
 use cores::LadderSupply;
@@ -19,28 +19,30 @@ struct Job {
     deadline: u32,
 }
 
+// What the test says of a job.
 #[derive(Clone, Copy)]
 struct Certificate {
     least: u64,
     certified: bool,
 }
 
-// Tests the job on all cores of the supply, from tick 0 to its deadline.
+// Tests the job under the widest ceiling, from tick 0 to its deadline.
 fn certify<S: Supply>(job: Job, supply: &S) -> Certificate
-    ensures least { λ r. ⌜ r .least ≡ least-yield (S·Supply .width (now (supply .entry))) (whole-span job) 64 ⌝ }
-    ensures certified { λ r. ⌜ When (r .certified) (Passes (S·Supply .width (now (supply .entry))) (whole-span job) 64 (job .volume)) (Fails (S·Supply .width (now (supply .entry))) (whole-span job) 64 (job .volume)) ⌝ }
+    ensures least { λ r. ⌜ r .least ≡ least-yield (S·Supply .width (now (supply .entry))) (whole-test job) 64 ⌝ }
+    ensures certified { λ r. ⌜ When (r .certified) (Passes (S·Supply .width (now (supply .entry))) (whole-test job) 64 (job .volume)) (Fails (S·Supply .width (now (supply .entry))) (whole-test job) 64 (job .volume)) ⌝ }
 {
-    let span = Span {
+    let test = MarkingTest {
         first: 0,
         deadline: job.deadline,
         length: job.length,
     };
     Certificate {
-        least: span.least_yield(supply, WIDEST),
-        certified: span.passes(supply, WIDEST, job.volume),
+        least: test.least_yield(supply, WIDEST),
+        certified: test.passes(supply, WIDEST, job.volume),
     }
 }
 
+// Prints the certificate, a line for each of its values and then the verdict.
 fn report(rt: &impl Print, job: Job, certificate: Certificate) -> io::Result<()> {
     println!(rt, "volume {}", job.volume)?;
     println!(rt, "length {}", job.length)?;
@@ -64,4 +66,26 @@ fn main(rt: LibcRuntime) -> io::Result<()> {
         ticks: 10,
     }];
     report(&rt, job, certify(job, &Ladder::new(&blocks)))
+}
+
+#[cfg(test)]
+mod tests {
+    use super::*;
+    use std::test::*;
+
+    #[test]
+    fn one_more_tick_of_work_is_refused() -> Result<(), Fail> {
+        let job = Job {
+            volume: 14,
+            length: 7,
+            deadline: 10,
+        };
+        let blocks = [Block {
+            cores: 2,
+            ticks: 10,
+        }];
+        let certificate = certify(job, &Ladder::new(&blocks));
+        check_eq(certificate.least, 13)?;
+        check(!certificate.certified)
+    }
 }

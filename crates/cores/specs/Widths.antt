@@ -1,4 +1,4 @@
--- The width of a supply, a number of cores from 0 to 64, as a function of the tick.
+-- The width of a supply, a number of cores from 0 to 64, as a function of the tick. A difference stops at 0.
 use mathlib.Core.Bool.{cond, _&&_}
 use Prim.Native.Nat.{ℕ, _+_, _-_, _^_, min}
 use lib.Dec.{leb, ltb}

@@ -12,7 +12,7 @@ pub struct Block {
     pub ticks: u16,
 }
 
-// The caller's blocks, one after another from tick 0; after the last one no cores.
+// The caller's blocks, one after another from tick 0; after the last one no cores. Cores above 64 count as 64.
 #[derive(Clone, Copy)]
 pub struct Ladder<'a> {
     blocks: &'a [Block],
@@ -33,9 +33,9 @@ impl<'a> Ladder<'a> {
 }
 
 pub impl<'a> Supply for Ladder<'a> as LadderSupply {
-    ghost width = { λ rungs tick. ladder (behind (rungs .blocks)) tick };
+    ghost width = { λ supply tick. ladder (behind (supply .blocks)) tick };
 
-    ghost narrow = { λ rungs tick. ladder-narrow (behind (rungs .blocks)) tick };
+    ghost narrow = { λ supply tick. ladder-narrow (behind (supply .blocks)) tick };
 
     fn width_at(&self, tick: u32) -> u8 {
         let mut left = tick;

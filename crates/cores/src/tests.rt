@@ -96,7 +96,7 @@ fn layers_in_both_orders() -> Result<(), Fail> {
         cores: 4,
         ticks: 10,
     }];
-    // The window moves with the late start below it, and not with the one above it.
+    // A late start moves the windows below it, and not those above it.
     let over = HoldBack::new(
         Late::new(HoldBack::new(Ladder::new(&blocks), 1, 5, 6), 2),
         2,
@@ -114,6 +114,12 @@ fn layers_in_both_orders() -> Result<(), Fail> {
     check_eq(under.width_at(3), 1)?;
     check_eq(under.width_at(4), 4)?;
     check_eq(under.width_at(7), 0)?;
+    let held_first = Late::new(HoldBack::new(Ladder::new(&blocks), 3, 5, 6), 2);
+    let late_first = HoldBack::new(Late::new(Ladder::new(&blocks), 2), 3, 5, 6);
+    check_eq(held_first.width_at(3), 1)?;
+    check_eq(held_first.width_at(5), 4)?;
+    check_eq(late_first.width_at(3), 4)?;
+    check_eq(late_first.width_at(5), 1)?;
     check_eq(under.by(), 2)?;
     check_eq(under.below().from(), 5)?;
     check_eq(under.below().until(), 6)?;

@@ -1,7 +1,7 @@
 use mathlib.Core.Path.{_≡_}
 use Prim.Native.Nat.{ℕ, _-_, _≤_}
 use lib.ListN.{length, getD}
-use Rattle.certificate.specs.Levels.{exactly}
+use Rattle.certificate.specs.Widths.{exactly}
 use Rattle.certificate.proofs.levels.histogram.Given as given
 
 -- the ticks before this one are counted, and none past the deadline

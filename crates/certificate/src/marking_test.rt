@@ -4,11 +4,19 @@ ghost use lib.Dec.{leb};
 ghost use Rattle.std.specs.Orderings.{When};
 ghost use Rattle.certificate.specs.Marking.{least-yield, LeastYield, Passes, Fails, least-ceiling, LeastCeiling};
 use crate::levels::least_yields;
-use crate::span::Span;
 use cores::Supply;
 use cores::WIDEST;
 
-impl Span {
+// A test of a job: the ticks in which it has to be done, from `first` up to the one before `deadline`, and
+// the `length` of its longest path, the greatest sum of worst-case times along it.
+#[derive(Clone, Copy)]
+pub struct MarkingTest {
+    pub first: u32,
+    pub deadline: u32,
+    pub length: u32,
+}
+
+impl MarkingTest {
     // The least that any marking of these ticks yields under the ceiling.
     pub fn least_yield<S: Supply>(&self, supply: &S, ceiling: u8) -> u64
         ensures value { λ r. ⌜ r ≡ least-yield (S·Supply .width (now (supply .entry))) (now (self .entry)) ceiling ⌝ }

@@ -1,11 +1,7 @@
--- The least yield by levels: what the private functions compute. A tick reaches level j where its width is at least j.
+-- The least yield by levels. A tick reaches level j where its width is at least j.
 use Prim.Native.Nat.{ℕ, zero, suc, _+_, _-_}
-use lib.Dec.{leb, eqb}
+use lib.Dec.{leb}
 use Rattle.certificate.specs.Marking.{one-if, total}
-
--- How many of `count` ticks from `first` on have just this width.
-abbrev pub exactly : (ℕ → ℕ) → ℕ → ℕ → ℕ → ℕ
-exactly width first count cores = total (λ tick. one-if (eqb (width tick) cores)) first count
 
 -- How many of `count` ticks from `first` on reach a level.
 abbrev pub reaching : (ℕ → ℕ) → ℕ → ℕ → ℕ → ℕ

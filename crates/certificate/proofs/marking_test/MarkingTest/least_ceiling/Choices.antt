@@ -1,7 +1,7 @@
 use mathlib.Core.Path.{_≡_}
 use Prim.Native.Nat.{ℕ, _-_, _≤_, _<_}
 use Rattle.certificate.specs.Marking.{least-yield, first-enough, least-ceiling}
-use Rattle.certificate.proofs.span.Span.least_ceiling.Given as given
+use Rattle.certificate.proofs.marking_test.MarkingTest.least_ceiling.Given as given
 
 -- no ceiling before this one is enough
 abbrev pub Inv-loop-ceiling : given.InvT-loop-ceiling
