@@ -1,5 +1,6 @@
 // The marking test on worked numbers and at its edges.
 use crate::MarkingTest;
+use crate::certify;
 use cores::Block;
 use cores::Flat;
 use cores::FlatSupply;
@@ -7,6 +8,10 @@ use cores::HoldBack;
 use cores::HoldBackSupply;
 use cores::Ladder;
 use cores::LadderSupply;
+use graph::Draft;
+use graph::Plan;
+use graph::Refusal;
+use graph::RefusalDebug;
 use std::test::*;
 
 // A job from tick 0 on a ladder: its least yield, and the least ceiling under which it passes, if any.
@@ -128,4 +133,38 @@ fn ticks_without_cores_yield_nothing() -> Result<(), Fail> {
     check_eq(test.least_yield(&supply, 64), 4)?;
     check_eq(test.least_ceiling(&supply, 4), Some(1))?;
     check_eq(test.least_ceiling(&supply, 5), None)
+}
+
+// Six steps of a hide: scan, three searches, nesting, knife path.
+fn hide() -> Result<Plan, Refusal> {
+    let mut draft = Draft::new();
+    draft.set_deadline(10)?;
+    for time in [1, 3, 2, 4, 2, 1] {
+        draft.add_step(time)?;
+    }
+    for (from, to) in [(0, 1), (0, 2), (0, 3), (1, 4), (2, 4), (3, 5), (4, 5)] {
+        draft.add_edge(from, to)?;
+    }
+    draft.finish()
+}
+
+#[test]
+fn plans_are_certified() -> Result<(), Fail> {
+    let plan = hide()?;
+    let whole = [block(2, 10)];
+    let two = certify(&plan, &Ladder::new(&whole));
+    check_eq(two.volume, 13)?;
+    check_eq(two.length, 7)?;
+    check_eq(two.deadline, 10)?;
+    check_eq(two.least, 13)?;
+    check(two.certified)?;
+    check_eq(two.refusal(), None)?;
+    let shorter = [block(2, 9)];
+    let nine = certify(&plan, &Ladder::new(&shorter));
+    check_eq(nine.least, 11)?;
+    check(!nine.certified)?;
+    check_eq(nine.refusal(), Some(11))?;
+    let empty = certify(&Plan::empty(), &Flat::new(64));
+    check_eq(empty.least, 0)?;
+    check(!empty.certified)
 }

@@ -1,91 +1,50 @@
-// Certifies one job on its core plan and prints the certificate.
-ghost use mathlib.Core.Path.{_≡_};
-ghost use Rattle.std.specs.Orderings.{When};
-ghost use Rattle.certificate.specs.Marking.{least-yield, Passes, Fails};
-ghost use Rattle.certify.specs.Jobs.{whole-test};
-use certificate::MarkingTest;
+// Certifies one plan on its core supply and prints the certificate.
+use certificate::Certificate;
+use certificate::certify;
 use cores::Block;
 use cores::Ladder;
 use cores::LadderSupply;
-use cores::Supply;
-use cores::WIDEST;
+use graph::Draft;
+use graph::Plan;
+use graph::Refusal;
 use std::io;
 
-// What the test needs to know of a job: its work, its longest path and its deadline, in ticks.
-#[derive(Clone, Copy)]
-struct Job {
-    volume: u64,
-    length: u32,
-    deadline: u32,
-}
+const TIMES: [u16; 6] = [1, 3, 2, 4, 2, 1];
 
-// What the test says of a job.
-#[derive(Clone, Copy)]
-struct Certificate {
-    least: u64,
-    certified: bool,
-}
+const EDGES: [(u8, u8); 7] = [(0, 1), (0, 2), (0, 3), (1, 4), (2, 4), (3, 5), (4, 5)];
 
-// Tests the job under the widest ceiling, from tick 0 to its deadline.
-fn certify<S: Supply>(job: Job, supply: &S) -> Certificate
-    ensures least { λ r. ⌜ r .least ≡ least-yield (S·Supply .width (now (supply .entry))) (whole-test job) 64 ⌝ }
-    ensures certified { λ r. ⌜ When (r .certified) (Passes (S·Supply .width (now (supply .entry))) (whole-test job) 64 (job .volume)) (Fails (S·Supply .width (now (supply .entry))) (whole-test job) 64 (job .volume)) ⌝ }
-{
-    let test = MarkingTest {
-        first: 0,
-        deadline: job.deadline,
-        length: job.length,
-    };
-    Certificate {
-        least: test.least_yield(supply, WIDEST),
-        certified: test.passes(supply, WIDEST, job.volume),
+// The plan of one hide: a scan, three flaw searches, nesting and the knife path.
+fn hide() -> Result<Plan, Refusal> {
+    let mut draft = Draft::new();
+    draft.set_deadline(10)?;
+    for time in TIMES {
+        draft.add_step(time)?;
     }
+    for (from, to) in EDGES {
+        draft.add_edge(from, to)?;
+    }
+    draft.finish()
 }
 
 // Prints the certificate, a line for each of its values and then the verdict.
-fn report(rt: &impl Print, job: Job, certificate: Certificate) -> io::Result<()> {
-    println!(rt, "volume {}", job.volume)?;
-    println!(rt, "length {}", job.length)?;
-    println!(rt, "deadline {}", job.deadline)?;
+fn report(rt: &impl Print, certificate: Certificate) -> io::Result<()> {
+    println!(rt, "volume {}", certificate.volume)?;
+    println!(rt, "length {}", certificate.length)?;
+    println!(rt, "deadline {}", certificate.deadline)?;
     println!(rt, "least {}", certificate.least)?;
-    if certificate.certified {
-        println!(rt, "certified")
-    } else {
-        println!(rt, "refused 11")
+    match certificate.refusal() {
+        None => println!(rt, "certified"),
+        Some(number) => println!(rt, "refused {number}"),
     }
 }
 
 fn main(rt: LibcRuntime) -> io::Result<()> {
-    let job = Job {
-        volume: 13,
-        length: 7,
-        deadline: 10,
-    };
     let blocks = [Block {
         cores: 2,
         ticks: 10,
     }];
-    report(&rt, job, certify(job, &Ladder::new(&blocks)))
-}
-
-#[cfg(test)]
-mod tests {
-    use super::*;
-    use std::test::*;
-
-    #[test]
-    fn one_more_tick_of_work_is_refused() -> Result<(), Fail> {
-        let job = Job {
-            volume: 14,
-            length: 7,
-            deadline: 10,
-        };
-        let blocks = [Block {
-            cores: 2,
-            ticks: 10,
-        }];
-        let certificate = certify(job, &Ladder::new(&blocks));
-        check_eq(certificate.least, 13)?;
-        check(!certificate.certified)
+    match hide() {
+        Ok(plan) => report(&rt, certify(&plan, &Ladder::new(&blocks))),
+        Err(refusal) => println!(rt, "refused {}", refusal.number()),
     }
 }

@@ -1,0 +1,15 @@
+pub mod Digits
+pub mod SetLaws
+pub mod Members
+pub mod Depths
+pub mod Joining
+pub mod Walking
+pub mod Listing
+pub mod PathLists
+pub mod Order
+pub mod EdgeCounts
+pub mod Refusing
+pub mod Adding
+pub mod Ancestry
+pub mod Implying
+pub mod PathTimes

@@ -1,0 +1,11 @@
+pub mod Sets
+pub mod Paths
+pub mod Walks
+pub mod Graphs
+pub mod Plans
+pub mod Edges
+pub mod Refusals
+pub mod Drafts
+pub mod Measures
+pub mod Lengths
+pub mod Asked
