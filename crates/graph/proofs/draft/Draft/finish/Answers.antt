@@ -13,7 +13,7 @@ use Rattle.graph.proofs.draft.Draft.finish.Needs as need
 pub ghost-result : need.ghost-result
 ghost-result c =
     let draft = c .args .self .now in (
-      (λ none. absurd (omega arith), λ some. (omega arith, draft .ranged)),
+      (λ none. absurd (omega arith), λ some. (omega arith, omega (arith, draft .ranged))),
       (
         λ from to inside implied.
             both-ways _
