@@ -1,4 +1,6 @@
 // Certifies the plan file on standard input and prints the certificate, or why there is none.
+#![tactic(auto)]
+
 ghost use Rattle.std.specs.Prelude.{◌≡◌, ◌≤◌, length, IfOk};
 ghost use Rattle.firmware.specs.Certificates.{file_certificate};
 ghost use Rattle.firmware.specs.Text.{content, laid_out, text_of};

@@ -1,4 +1,6 @@
 // How many cores a job may use at each tick.
+#![tactic(auto)]
+
 mod flat;
 mod hold_back;
 mod ladder;

@@ -1,4 +1,6 @@
 // Which of the ready steps runs next.
+#![tactic(auto)]
+
 mod lowest;
 mod policy;
 mod ranked;

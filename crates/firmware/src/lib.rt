@@ -1,4 +1,6 @@
 // What the firmware answers, without heap and without formatting.
+#![tactic(auto)]
+
 mod certifying;
 mod file_cores;
 #[cfg(test)]

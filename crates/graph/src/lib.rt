@@ -1,4 +1,6 @@
 // Steps, sets of steps, plans, measures and the walk.
+#![tactic(auto)]
+
 mod ancestors;
 mod draft;
 mod drafting;

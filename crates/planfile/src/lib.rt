@@ -1,4 +1,6 @@
 // Plan files: records end to end, read into a plan and its blocks.
+#![tactic(auto)]
+
 mod cause;
 mod decoding;
 mod entry;
