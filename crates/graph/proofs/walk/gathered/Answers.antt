@@ -55,5 +55,5 @@ returns g c =
     let join = g.M.Measure.join c.args.measure.now in
     let value = λ (s : ℕ). get_or c.args.values.now s (g.M.Measure.start c.args.measure.now) in
     sym (plus_none join (g.met.M.Measure.groups c.args.measure.now) c.loop-step.sum)
-    ∙ ap (λ left. plus join c.loop-step.sum (join_all join (map value left))) (sym (members_none c.loop-step.rest c.in-default.ensures))
+    ∙ ap (λ left. plus join c.loop-step.sum (join_all join (map value left))) (sym (members_none c.loop-step.rest c.in_default.ensures))
     ∙ c.loop-step.invariant

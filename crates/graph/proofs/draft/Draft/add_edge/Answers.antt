@@ -45,13 +45,13 @@ module _ (draft : Draft) (after : Graph) (from to : ℕ) (rises : from < to) (th
   room_left = omega (arith, one_more, edges_bound after.predecessors after.sized.1 after.rising)
 
 pub bounds-self-from-2 : goal.bounds-self-from-2
-bounds-self-from-2 c = omega (arith, room_left c.args.self.now c.add-edge.new.self c.args.from c.args.to (omega arith) (omega arith) (found c.args.self.now.graph.predecessors c.from.result c.args.to c.args.from false c.from.ensures c.if-contains.ensures.value) c.add-edge.ensures.predecessors)
+bounds-self-from-2 c = omega (arith, room_left c.args.self.now c.add_edge.new.self c.args.from c.args.to (omega arith) (omega arith) (found c.args.self.now.graph.predecessors c.from.result c.args.to c.args.from false c.from.ensures c.if-contains.ensures.value) c.add_edge.ensures.predecessors)
 
-pub overflow-add-self : goal.overflow-add-self
-overflow-add-self c = record { fits = omega (arith, room_left c.args.self.now c.add-edge.new.self c.args.from c.args.to (omega arith) (omega arith) (found c.args.self.now.graph.predecessors c.from.result c.args.to c.args.from false c.from.ensures c.if-contains.ensures.value) c.add-edge.ensures.predecessors) }
+pub overflow_add-self : goal.overflow_add-self
+overflow_add-self c = record { fits = omega (arith, room_left c.args.self.now c.add_edge.new.self c.args.from c.args.to (omega arith) (omega arith) (found c.args.self.now.graph.predecessors c.from.result c.args.to c.args.from false c.from.ensures c.if-contains.ensures.value) c.add_edge.ensures.predecessors) }
 
-pub invariant-of-self : goal.invariant-of-self
-invariant-of-self c =
+pub invariant_of-self : goal.invariant_of-self
+invariant_of-self c =
     let draft = c.args.self.now in
     let graph = draft.graph in
     let from = c.args.from in
@@ -61,23 +61,18 @@ invariant-of-self c =
     let there : to < length graph.predecessors = omega (arith, graph.sized.1, graph.few) in
     let within : from < 64 = omega (arith, graph.few) in
     let new = found graph.predecessors c.from.result to from false c.from.ensures c.if-contains.ensures.value in
-    let room : draft.added < length draft.edges = omega (arith, draft.sized, room_left draft c.add-edge.new.self from to (omega arith) (omega arith) new c.add-edge.ensures.predecessors) in
+    let room : draft.added < length draft.edges = omega (arith, draft.sized, room_left draft c.add_edge.new.self from to (omega arith) (omega arith) new c.add_edge.ensures.predecessors) in
     let place = sym c.from-2.ensures in
-    let sets = sym c.add-edge.ensures.predecessors in
+    let sets = sym c.add_edge.ensures.predecessors in
     let all = listed_more graph.predecessors from to there within draft.edges draft.added room draft.listed in
-    let only = complete_more graph.predecessors from to there within draft.edges draft.added room draft.complete in (
-      length-set draft.edges at edge ∙ draft.sized,
-      (
-        draft.ranged,
-        (
-          one_more draft c.add-edge.new.self from to (omega arith) (omega arith) new c.add-edge.ensures.predecessors,
-          (
-            subst₂ (λ held k. EachInGraph held (set draft.edges k edge) (draft.added + 1)) sets place all,
-            (subst₂ (λ held k. NoOther held (set draft.edges k edge) (draft.added + 1)) sets place only, tt),
-          ),
-        ),
-      ),
-    )
+    let only = complete_more graph.predecessors from to there within draft.edges draft.added room draft.complete in
+    record {
+      sized = length-set draft.edges at edge ∙ draft.sized;
+      ranged = draft.ranged;
+      counted = one_more draft c.add_edge.new.self from to (omega arith) (omega arith) new c.add_edge.ensures.predecessors;
+      listed = subst₂ (λ held k. EachInGraph held (set draft.edges k edge) (draft.added + 1)) sets place all;
+      complete = subst₂ (λ held k. NoOther held (set draft.edges k edge) (draft.added + 1)) sets place only;
+    }
 
 pub returns : goal.returns
 returns c =
@@ -89,10 +84,10 @@ returns c =
     let edge : Edge = record { from = from; to = to } in
     let steps : to < length held.times = omega (arith, length-take graph.count graph.times, graph.sized.0, graph.few) in
     let new = found graph.predecessors c.from.result to from false c.from.ensures c.if-contains.ensures.value in
-    let room : draft.added < length draft.edges = omega (arith, draft.sized, room_left draft c.add-edge.new.self from to (omega arith) (omega arith) new c.add-edge.ensures.predecessors) in
+    let room : draft.added < length draft.edges = omega (arith, draft.sized, room_left draft c.add_edge.new.self from to (omega arith) (omega arith) new c.add_edge.ensures.predecessors) in
     let unlisted = listed_has graph.predecessors draft.edges draft.added from to (omega arith) draft.listed new in
     let said = accepted (edge_refusal held from to) tt held (with_edge edge held) (edge_new held from to (omega arith) steps unlisted) in
-    let times = ap₂ take c.add-edge.ensures.count c.add-edge.ensures.times in
+    let times = ap₂ take c.add_edge.ensures.count c.add_edge.ensures.times in
     let edges = ap (λ k. take (draft.added + 1) (set draft.edges k edge)) c.from-2.ensures ∙ take_more_set draft.edges draft.added edge room in
     record {
       answer = said.0;

@@ -5,8 +5,8 @@ use Rattle.graph.specs.Drafts.{content, with_time, step_refusal}
 use Rattle.graph.proofs.Refusing.{refused, accepted, same_content, step_full, step_out, step_in}
 use Rattle.graph.proofs.draft.Draft.add_step.Goals as goal
 
-pub returns-then-from-ge-MOST-STEPS : goal.returns-then-from-ge-MOST-STEPS
-returns-then-from-ge-MOST-STEPS c =
+pub returns-then-from-ge-MOST_STEPS : goal.returns-then-from-ge-MOST_STEPS
+returns-then-from-ge-MOST_STEPS c =
     let draft = c.args.self.now in
     let held = content draft in
     let time = c.args.time in
@@ -28,7 +28,7 @@ returns c =
     let draft = c.args.self.now in
     let held = content draft in
     let time = c.args.time in
-    let added = c.add-step.ensures in
+    let added = c.add_step.ensures in
     let steps : length held.times ≡ draft.graph.count = omega (arith, length-take draft.graph.count draft.graph.times, draft.graph.sized.0) in
     let said = accepted (step_refusal held time) (length held.times) held (with_time time held) (step_in held time (omega arith) (omega arith) (omega arith)) in
     let times = ap₂ take added.count added.times ∙ take_more_set draft.graph.times draft.graph.count time (omega (arith, draft.graph.sized.0)) in

@@ -1,11 +1,11 @@
-use Rattle.std.proofs.Common.{ℕ, ◌<◌, get_or, sym, ap, ◌∙◌, subst, ⊎_elim, arith}
+use Rattle.std.proofs.Common.{MatchOption, ℕ, ◌<◌, get_or, sym, ap, ◌∙◌, subst, ⊎_elim, arith}
 use Rattle.std.proofs.lemmas.Bool.{cases_eq, both_ways}
 use Rattle.graph.specs.Edges.{no_edge}
 use Rattle.graph.specs.Graphs.{set_before, before}
 use Rattle.graph.specs.Paths.{Ancestor}
 use Rattle.graph.specs.Sets.{has, none, without_step}
 use Rattle.graph.specs.declared.draft.Draft.{Draft}
-use Rattle.graph.specs.Drafts.{ImpliedAt}
+use Rattle.graph.specs.Drafts.{ImpliedAt, NoneImplied, FirstImplied}
 use Rattle.graph.proofs.DraftEdges.{none_in_list, first_in_list}
 use Rattle.graph.proofs.EdgeCounts.{few_edges}
 use Rattle.graph.proofs.Implying.{edge_there, no_self, on_path, still_has, gone_from}
@@ -19,8 +19,8 @@ end_there draft i under = omega (arith, edge_there draft.graph _ _ (draft.listed
 pub bounds-self-from : goal.bounds-self-from
 bounds-self-from c = omega (arith, few_edges c.args.self.now, c.args.self.now.sized)
 
-pub offset-bounds-self-from-in-edges : goal.offset-bounds-self-from-in-edges
-offset-bounds-self-from-in-edges c = record { fits = omega (arith, end_there c.args.self.now c.from.result (omega arith)) }
+pub offset_bounds-self-from-in-edges : goal.offset_bounds-self-from-in-edges
+offset_bounds-self-from-in-edges c = record { fits = omega (arith, end_there c.args.self.now c.from.result (omega arith)) }
 
 pub bounds-self-from-in-edges : goal.bounds-self-from-in-edges
 bounds-self-from-in-edges c = omega (arith, end_there c.args.self.now c.from.result (omega arith))
@@ -51,9 +51,9 @@ loop-other-preserved c =
     let other = c.in-Some.other in
     let left = c.remove-in-Some.ensures.value in
     let inside = c.loop-other.invariant.1 other c.in-Some.ensures.0.inside in
-    let missed = ap (λ k. has (get_or c.walk-on-paths.result k none) edge.from) (sym c.from-in-Some.ensures) ∙ sym c.if-contains.ensures.value in
+    let missed = ap (λ k. has (get_or c.walk-on_paths.result k none) edge.from) (sym c.from-in-Some.ensures) ∙ sym c.if-contains.ensures.value in
     let no_ancestor = λ (ancestor : Ancestor (before draft.graph.predecessors) edge.from other).
-    both_ways _ missed ((on_path draft.graph c.walk-on-paths.result c.walk-on-paths.ensures.steps c.walk-on-paths.ensures.paths edge.from edge.to other inside.0 inside.1).1 ancestor) in (
+    both_ways _ missed ((on_path draft.graph c.walk-on_paths.result c.walk-on_paths.ensures.steps c.walk-on_paths.ensures.paths edge.from edge.to other inside.0 inside.1).1 ancestor) in (
       c.loop-other.invariant.0,
       λ n in_rest. c.loop-other.invariant.1 n (still_has c.loop-other.others other n (ap (λ held. has held n) (sym left) ∙ in_rest)).0,
       λ n there outside ancestor.
@@ -71,14 +71,19 @@ edges-preserved c =
           ⊎_elim
           (λ same.
           let here = subst (ImpliedAt draft) (same ∙ sym c.from.ensures) implied in
-          c.loop-other.invariant.2 here.0 here.1 (c.in-default.ensures here.0) here.2)
+          c.loop-other.invariant.2 here.0 here.1 (c.in_default.ensures here.0) here.2)
           (λ other. c.edges.invariant.1 earlier (omega arith) implied)
           (cases_eq earlier c.edges.i),
     )
 
 pub returns-after-edges : goal.returns-after-edges
 returns-after-edges c =
-    c.edges.invariant.0 ∙ sym (none_in_list c.args.self.now (λ i under. c.edges.invariant.1 i (omega arith)))
+    let draft = c.args.self.now in
+    let none : NoneImplied draft draft.added = λ i under. c.edges.invariant.1 i (omega arith) in
+    record {
+      first = subst (λ found. MatchOption found (NoneImplied draft draft.added) (FirstImplied draft)) (sym c.edges.invariant.0) none;
+      by_content = c.edges.invariant.0 ∙ sym (none_in_list draft none);
+    }
 
 pub returns-then-contains : goal.returns-then-contains
 returns-then-contains c =
@@ -86,6 +91,10 @@ returns-then-contains c =
     let edge = get_or draft.edges c.from.result no_edge in
     let other = c.in-Some.other in
     let inside = c.loop-other.invariant.1 other c.in-Some.ensures.0.inside in
-    let hit = ap (λ k. has (get_or c.walk-on-paths.result k none) edge.from) (sym c.from-in-Some.ensures) ∙ sym c.if-contains.ensures.value in
-    let ancestor = (on_path draft.graph c.walk-on-paths.result c.walk-on-paths.ensures.steps c.walk-on-paths.ensures.paths edge.from edge.to other inside.0 inside.1).0 hit in
-    sym (first_in_list draft c.edges.i c.edges-test.true (subst (ImpliedAt draft) c.from.ensures (other, inside.0, ancestor)) c.edges.invariant.1)
+    let hit = ap (λ k. has (get_or c.walk-on_paths.result k none) edge.from) (sym c.from-in-Some.ensures) ∙ sym c.if-contains.ensures.value in
+    let ancestor = (on_path draft.graph c.walk-on_paths.result c.walk-on_paths.ensures.steps c.walk-on_paths.ensures.paths edge.from edge.to other inside.0 inside.1).0 hit in
+    let here : ImpliedAt draft c.edges.i = subst (ImpliedAt draft) c.from.ensures (other, inside.0, ancestor) in
+    record {
+      first = (c.edges-test.true, here, λ earlier under. c.edges.invariant.1 earlier under);
+      by_content = sym (first_in_list draft c.edges.i c.edges-test.true here c.edges.invariant.1);
+    }

@@ -7,21 +7,13 @@ use Rattle.graph.proofs.Listing.{everywhere}
 use Rattle.graph.specs.SetLaws.{has_none}
 use Rattle.graph.proofs.draft.Draft.new.Goals as goal
 
-pub invariant-of-result : goal.invariant-of-result
-invariant-of-result c =
-    let empty = c.empty.ensures.predecessors in (
-      refl,
-      (
-        omega arith,
-        (
-          sym (ap edges_in empty ∙ edges_none 64),
-          (
-            λ i under. absurd (omega arith),
-            (
-              λ from to never. ap (λ sets. has (set_before sets to) from) empty ∙ ap (λ held. has held from) (everywhere 64 to none none refl) ∙ has_none from,
-              tt,
-            ),
-          ),
-        ),
-      ),
-    )
+pub invariant_of-result : goal.invariant_of-result
+invariant_of-result c =
+    let empty = c.empty.ensures.predecessors in
+    record {
+      sized = refl;
+      ranged = omega arith;
+      counted = sym (ap edges_in empty ∙ edges_none 64);
+      listed = λ i under. absurd (omega arith);
+      complete = λ from to never. ap (λ sets. has (set_before sets to) from) empty ∙ ap (λ held. has held from) (everywhere 64 to none none refl) ∙ has_none from;
+    }

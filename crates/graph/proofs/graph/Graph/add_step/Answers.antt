@@ -4,8 +4,8 @@ use Rattle.std.proofs.lemmas.Bool.{cases_eq}
 use Rattle.graph.specs.Graphs.{time_of, Timed, Unused}
 use Rattle.graph.proofs.graph.Graph.add_step.Goals as goal
 
-pub invariant-of-self : goal.invariant-of-self
-invariant-of-self c =
+pub invariant_of-self : goal.invariant_of-self
+invariant_of-self c =
     let graph = c.args.self.now in
     let at = c.from.result in
     let time = c.args.time in
@@ -21,4 +21,10 @@ invariant-of-self c =
     let kept = get_or-set_other graph.times at step time 0 (λ same. omega arith) in
     let before = graph.unused step (omega arith) in
     (kept ∙ before.0, before.1) in
-    ((length-set graph.times at time ∙ graph.sized.0, graph.sized.1), (omega arith, (timed, (graph.rising, (unused, tt)))))
+    record {
+      sized = (length-set graph.times at time ∙ graph.sized.0, graph.sized.1);
+      few = omega arith;
+      timed = timed;
+      rising = graph.rising;
+      unused = unused;
+    }

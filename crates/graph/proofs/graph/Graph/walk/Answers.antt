@@ -34,7 +34,7 @@ loop-step-preserved g c =
     (g.met.M.Measure.groups measure) (g.met.M.Measure.spreads measure) (λ s. get_or values s start) step
     (All-weaker _ _ (λ from under. c.loop-step.invariant.1 from under) (before graph.predecessors step) (before_all graph.predecessors graph.rising step)) in
     let all_before = λ (i : ℕ). join_all join (map (λ s. get_or values s start) (members (get_or graph.predecessors i none))) in
-    let arriving = c.unwrap-or-arriving.ensures ∙ ap₂ unwrap_or (c.gathered.ensures ∙ ap all_before c.from-at.ensures) c.start.ensures in
+    let arriving = c.unwrap_or-arriving.ensures ∙ ap₂ unwrap_or (c.gathered.ensures ∙ ap all_before c.from-at.ensures) c.start.ensures in
     let carried = c.carry.ensures ∙ ap₂ (λ v t. carry v step t) arriving (ap (λ i. get_or graph.times i 0) c.from-at.ensures) in (
       length-set values at c.carry.result ∙ c.loop-step.invariant.0,
       λ s under.

@@ -4,11 +4,11 @@ use Rattle.graph.specs.SetLaws.{zero_lacks}
 use Rattle.graph.proofs.Members.{least_first}
 use Rattle.graph.proofs.step_set.StepSet.first.Goals as goal
 
-pub returns-then-is-empty : goal.returns-then-is-empty
-returns-then-is-empty c = c.is-empty.ensures.empty.0 c.if-is-empty.true
+pub returns-then-is_empty : goal.returns-then-is_empty
+returns-then-is_empty c = c.is_empty.ensures.empty.0 c.if-is_empty.true
 
-pub returns-else-is-empty : goal.returns-else-is-empty
-returns-else-is-empty c =
+pub returns-else-is_empty : goal.returns-else-is_empty
+returns-else-is_empty c =
     let set = c.args.self in
-    let some : (set.bits ≡ 0 → ⊥) = λ zeros. both_ways c.is-empty.result c.if-is-empty.false (c.is-empty.ensures.empty.1 (zero_lacks set zeros)) in
+    let some : (set.bits ≡ 0 → ⊥) = λ zeros. both_ways c.is_empty.result c.if-is_empty.false (c.is_empty.ensures.empty.1 (zero_lacks set zeros)) in
     least_first set (omega arith) (omega arith)

@@ -1,4 +1,4 @@
-use Rattle.std.proofs.Common.{◌≡◌, ◌-◌, ◌^◌, ap, ◌∙◌, arith}
+use Rattle.std.proofs.Common.{◌≡◌, ◌-◌, ◌^◌, ap, ◌∙◌, arith, rules}
 use lib.Bits.{bit_and}
 use Rattle.graph.specs.Sets.{has, without_step}
 use Rattle.graph.specs.declared.step_set.StepSet.{StepSet}
@@ -11,5 +11,5 @@ returns c =
     let step = c.args.step in
     let new : StepSet = record { bits = bit_and old.bits (2 ^ 64 - 1 - c.bit.result) } in
     let value : new ≡ without_step step old =
-    same_bits new (without_step step old) (and_not_mask old step c.bit.result c.bit.ensures (omega arith) c.bit.type-inv) in
+    same_bits new (without_step step old) (and_not_mask old step c.bit.result c.bit.ensures (omega arith) (search rules)) in
     record { value = value; steps = λ n. ap (λ (set : StepSet). has set n) value ∙ has_without step old n }
