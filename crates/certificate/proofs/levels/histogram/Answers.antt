@@ -14,8 +14,8 @@ loop-tick-init g c =
       omega arith,
     )
 
-pub overflow-add-counts : goal.overflow-add-counts
-overflow-add-counts g c =
+pub overflow_add-counts : goal.overflow_add-counts
+overflow_add-counts g c =
     let width = g.S.Supply.width c.args.supply.now in
     let first = c.args.test.now.first in
     let at = c.from.result in
@@ -30,7 +30,7 @@ loop-tick-preserved g c =
     let narrow = g.S.Supply.narrow c.args.supply.now tick in (
       length-set _ _ _ ∙ c.loop-tick.invariant.0,
       λ cores in_width.
-          counted_more width c.args.test.now.first c.loop-tick.counts tick c.from.result cores c.loop-tick.auto.tick (c.from.ensures ∙ c.width-at.ensures) (omega (arith, narrow)) (c.loop-tick.invariant.1 cores in_width),
+          counted_more width c.args.test.now.first c.loop-tick.counts tick c.from.result cores c.loop-tick.auto.tick (c.from.ensures ∙ c.width_at.ensures) (omega (arith, narrow)) (c.loop-tick.invariant.1 cores in_width),
       omega arith,
     )
 

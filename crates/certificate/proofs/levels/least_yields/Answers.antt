@@ -13,8 +13,8 @@ up_to_one yields level allowed none one zero within = none
 up_to_one yields level allowed none one (suc zero) within = one
 up_to_one yields level allowed none one (suc (suc ceiling)) within = absurd (omega arith)
 
-pub overflow-sub-level : goal.overflow-sub-level
-overflow-sub-level g c =
+pub overflow_sub-level : goal.overflow_sub-level
+overflow_sub-level g c =
     let width = g.S.Supply.width c.args.supply.now in
     let test = c.args.test.now in
     omega (arith, c.histogram-counts.ensures.counts 0 (omega arith), reaching_all width test.first (ticks test), reaching_next width test.first (ticks test) 0)
@@ -26,10 +26,10 @@ loop-cores-init g c =
     let level = reaching width test.first (ticks test) in
     let one : c.from-sum.result ≡ level 1 =
     omega (arith, c.histogram-counts.ensures.counts 0 (omega arith), reaching_all width test.first (ticks test), reaching_next width test.first (ticks test) 0) in
-    (refl, omega arith, one, omega arith, up_to_one (set (replicate 65 0) 1 c.from-sum.result) level c.marks-allowed-allowed.result refl one)
+    (refl, omega arith, one, omega arith, up_to_one (set (replicate 65 0) 1 c.from-sum.result) level c.marks_allowed-allowed.result refl one)
 
-pub overflow-sub-level-in-loop-cores : goal.overflow-sub-level-in-loop-cores
-overflow-sub-level-in-loop-cores g c =
+pub overflow_sub-level-in-loop-cores : goal.overflow_sub-level-in-loop-cores
+overflow_sub-level-in-loop-cores g c =
     let width = g.S.Supply.width c.args.supply.now in
     let test = c.args.test.now in
     let cores = c.loop-cores.cores in
@@ -40,7 +40,7 @@ loop-cores-preserved g c =
     let width = g.S.Supply.width c.args.supply.now in
     let test = c.args.test.now in
     let level = reaching width test.first (ticks test) in
-    let allowed = c.marks-allowed-allowed.result in
+    let allowed = c.marks_allowed-allowed.result in
     let cores = c.loop-cores.cores in
     let counted = c.histogram-counts.ensures.counts cores (omega arith) in
     let place : suc cores ≡ cores + 1 = omega arith in
@@ -65,6 +65,6 @@ returns g c =
       size = c.loop-cores.invariant.0;
       yields = λ ceiling within.
           c.loop-cores.invariant.4 ceiling (omega arith)
-          ∙ ap (λ allowed. stacked (reaching width test.first (ticks test)) allowed ceiling) c.marks-allowed-allowed.ensures
+          ∙ ap (λ allowed. stacked (reaching width test.first (ticks test)) allowed ceiling) c.marks_allowed-allowed.ensures
           ∙ stacked_is_least width (allowance test.length) ceiling test.first (ticks test);
     }

@@ -33,4 +33,4 @@ loop-step-preserved c = λ n over.
     ∙ c.loop-step.invariant n over
 
 pub returns : goal.returns
-returns c = λ other over. sym (c.loop-step.invariant other over) ∙ c.in-default.ensures other
+returns c = λ other over. sym (c.loop-step.invariant other over) ∙ c.in_default.ensures other

@@ -13,7 +13,7 @@ returns-then-yields-from g c =
     let test = c.args.self.now in
     let work = c.args.work in
     let ceiling = c.loop-ceiling.ceiling in
-    let found = c.least-yields-yields.ensures.yields c.from.result (omega arith) in
+    let found = c.least_yields-yields.ensures.yields c.from.result (omega arith) in
     let enough : work ≤ least_yield width test ceiling = omega (arith, ap (least_yield width test) c.from.ensures) in
     record {
       value = sym (enough_here (least_yield width test) work ceiling (65 - ceiling) (omega arith) enough) ∙ c.loop-ceiling.invariant.0;
@@ -26,7 +26,7 @@ loop-ceiling-preserved g c =
     let test = c.args.self.now in
     let work = c.args.work in
     let ceiling = c.loop-ceiling.ceiling in
-    let found = c.least-yields-yields.ensures.yields c.from.result (omega arith) in
+    let found = c.least_yields-yields.ensures.yields c.from.result (omega arith) in
     let less : least_yield width test ceiling < work = omega (arith, ap (least_yield width test) c.from.ensures) in
     let left : 65 - (ceiling + 1) ≡ 65 - ceiling - 1 = omega arith in (
       ap (first_enough (least_yield width test) work (ceiling + 1)) left

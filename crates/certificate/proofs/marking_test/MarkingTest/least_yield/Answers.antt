@@ -11,8 +11,8 @@ returns g c =
     let narrow = g.S.Supply.narrow supply in
     let test = c.args.self.now in
     let ceiling = c.args.ceiling in
-    let found = c.least-yields.ensures.yields c.from.result (omega arith) in
-    let value : get_or c.least-yields.result c.from.result 0 ≡ least_yield width test ceiling =
+    let found = c.least_yields.ensures.yields c.from.result (omega arith) in
+    let value : get_or c.least_yields.result c.from.result 0 ≡ least_yield width test ceiling =
     ⊎_elim
     (λ under. found ∙ ap (least_yield width test) (omega arith))
     (λ over. found ∙ ap (least_yield width test) (omega arith) ∙ sym (least_capped width test narrow ceiling over))

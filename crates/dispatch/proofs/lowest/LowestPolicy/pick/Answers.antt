@@ -29,7 +29,7 @@ pub returns : goal.returns
 returns c =
     let ready = c.args.ready in
     let before = c.args.self.now in
-    let is = c.unwrap-or.ensures in
+    let is = c.unwrap_or.ensures in
     record {
       step = is ∙ value ready c.first.result c.first.ensures;
       state = refl;

@@ -7,11 +7,11 @@ use Rattle.dispatch.specs.Right.{highest_empty, highest_right, highest_only, pic
 use Rattle.dispatch.specs.Rising.{fewer}
 use Rattle.dispatch.proofs.ranked.RankedPolicy.pick.Goals as goal
 
-pub returns-in-default : goal.returns-in-default
-returns-in-default c =
+pub returns-in_default : goal.returns-in_default
+returns-in_default c =
     let ready = c.args.ready in
     let before = c.args.self.now in
-    let none = c.in-default.ensures in
+    let none = c.in_default.ensures in
     record {
       step = sym (highest_empty ready (λ n _. none n) before.ranks);
       state = refl;
@@ -63,7 +63,7 @@ returns c =
     let before = c.args.self.now in
     let best = c.loop-step.best in
     let known = c.loop-step.invariant in
-    let right = so_far_all before.ranks ready c.loop-step.rest best known c.in-default-first.ensures in
+    let right = so_far_all before.ranks ready c.loop-step.rest best known c.in_default-first.ensures in
     let small = has_below ready (omega arith) in
     record {
       step = highest_only before.ranks ready best (highest before.ranks ready) right (highest_right ready best known.within known.inside before.ranks small);

@@ -26,7 +26,7 @@ returns-in-Some c =
     let ready = c.args.ready in
     let last = c.args.self.now.last in
     let step = c.in-Some.step in
-    let next : Next last ready (Some step) = subst (λ (answer : Option ℕ). Next last ready answer) (sym c.in-Some.ensures) (either last ready c.first-above.result c.first.result c.first-above.ensures c.first.ensures) in
+    let next : Next last ready (Some step) = subst (λ (answer : Option ℕ). Next last ready answer) (sym c.in-Some.ensures) (either last ready c.first_above.result c.first.result c.first_above.ensures c.first.ensures) in
     let inside = next_has last ready step next.0 in
     let small = has_below ready (omega arith) in
     let value = next_only last ready step (next_after last ready) next.0 (next_right ready step next.1 inside last small) in
@@ -41,7 +41,7 @@ unfolding standing
 returns-in-None c =
     let ready = c.args.ready in
     let last = c.args.self.now.last in
-    let none : Next last ready None = subst (λ (answer : Option ℕ). Next last ready answer) (sym c.in-None.ensures) (either last ready c.first-above.result c.first.result c.first-above.ensures c.first.ensures) in
+    let none : Next last ready None = subst (λ (answer : Option ℕ). Next last ready answer) (sym c.in-None.ensures) (either last ready c.first_above.result c.first.result c.first_above.ensures c.first.ensures) in
     record {
       step = sym (next_empty ready (λ n _. none n) last);
       state = ap standing (sym (last_empty ready (λ n _. none n) last));
