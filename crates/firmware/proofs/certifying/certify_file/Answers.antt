@@ -7,20 +7,20 @@ use Rattle.firmware.specs.Cores.{width_of}
 use Rattle.firmware.proofs.FileCertificates.{is_certificate, is_least, refused_file, accepted_file, from_refused, from_accepted, grants}
 use Rattle.firmware.proofs.certifying.certify_file.Goals as goal
 
-pub returns-in-err-layers : goal.returns-in-err-layers
-returns-in-err-layers c =
-    let is : c.from-residual.result ≡ Err c.in-err-layers.field-0.0 = search rules in
+pub returns-in_err-layers : goal.returns-in_err-layers
+returns-in_err-layers c =
+    let is : c.from_residual.result ≡ Err c.in_err-layers.field-0.0 = search rules in
     let file = c.args.file.now in
-    let told = c.in-err-layers.ensures in
-    let bad = c.in-err-layers.field-0.0 in
+    let told = c.in_err-layers.ensures in
+    let bad = c.in_err-layers.field-0.0 in
     let known = refused_file file told.law bad (from_refused (outcome 64 file) bad told.answer) in
     record { answer = is ∙ known.0; law = known.1 }
 
 pub returns : goal.returns
 returns c =
     let file = c.args.file.now in
-    let told = c.in-ok-layers.ensures in
-    let accepted = from_accepted (outcome 64 file) c.in-ok-layers.layers told.answer in
+    let told = c.in_ok-layers.ensures in
+    let accepted = from_accepted (outcome 64 file) c.in_ok-layers.layers told.answer in
     let entries = accepted.0 in
     let read = reading_of entries in
     let plan = c.read.new.plan in

@@ -7,4 +7,4 @@ pub returns : goal.returns
 returns c =
     let file = c.args.file.now in
     let is : c.from.result ≡ number_by (file_certificate file) = search rules in
-    record { number = is; law = subst (NumberLaw file) (sym is) (number_law file c.certify-file.ensures.law) }
+    record { number = is; law = subst (NumberLaw file) (sym is) (number_law file c.certify_file.ensures.law) }

@@ -8,11 +8,11 @@ use Rattle.planfile.proofs.finding.find.Goals as goal
 pub loop-rest-init : goal.loop-rest-init
 loop-rest-init c = (omega arith, λ entries is. from_start c.args.kind c.args.before entries c.args.file.now is)
 
-pub returns-in-default : goal.returns-in-default
-returns-in-default c =
+pub returns-in_default : goal.returns-in_default
+returns-in_default c =
     let some : 1 ≤ length c.loop-rest.rest.now = search rules in
     record {
-      found = λ entries is. absurd (never_short c.args.kind c.args.before entries c.loop-rest.rest.now c.loop-rest.left (c.loop-rest.invariant.1 entries is) some c.in-default.ensures.0);
+      found = λ entries is. absurd (never_short c.args.kind c.args.before entries c.loop-rest.rest.now c.loop-rest.left (c.loop-rest.invariant.1 entries is) some c.in_default.ensures.0);
       within = tt;
     }
 

@@ -6,7 +6,7 @@ pub returns-in-Ok : goal.returns-in-Ok
 returns-in-Ok c =
     let places = length c.args.blocks.now in
     let file = c.args.file.now in
-    let list = c.read-whole.new.list in
+    let list = c.read_whole.new.list in
     let whole = c.in-Ok.whole in
     let read = c.in-Ok.ensures.read in
     record {

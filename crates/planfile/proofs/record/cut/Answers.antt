@@ -7,8 +7,8 @@ use Rattle.planfile.proofs.record.cut.Goals as goal
 pub returns : goal.returns
 returns c =
     let bytes = c.args.bytes.now in
-    let body = c.split-at.result.0.now in
-    let after = c.split-at.result.1.now in
-    from_parts bytes body after c.from-le-bytes-kind.result (search rules) (search rules) (search rules)
-    (omega (arith, c.split-at.ensures.front-len)) (search rules)
-    (sym (take_all (length bytes - 4) (drop 4 bytes) (simp length-drop (omega arith))) ∙ c.split-at.ensures.by_index.0)
+    let body = c.split_at.result.0.now in
+    let after = c.split_at.result.1.now in
+    from_parts bytes body after c.from_le_bytes-kind.result (search rules) (search rules) (search rules)
+    (omega (arith, c.split_at.ensures.front_len)) (search rules)
+    (sym (take_all (length bytes - 4) (drop 4 bytes) (simp length-drop (omega arith))) ∙ c.split_at.ensures.by_index.0)

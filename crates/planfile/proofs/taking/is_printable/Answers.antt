@@ -11,7 +11,7 @@ returns-then-byte-lt33 c =
     let i = c.loop-byte.byte-index in
     let next = at_drop_more printable label i 0 c.loop-byte-test.true in
     let out : (get_or label i 0 < 33) ⊎ (126 < get_or label i 0) =
-    elim c.then-byte-lt33.branch [ then_byte_lt33_via_then_byte_lt33 w ↦ inl (search rules) | then-byte-lt33-via-else-byte-lt33+then-byte-gt126 w ↦ inr (search rules) ] in
+    elim c.then-byte-lt33.branch [ then-byte-lt33-via-then-byte-lt33 w ↦ inl (search rules) | then-byte-lt33-via-else-byte-lt33+then-byte-gt126 w ↦ inr (search rules) ] in
     sym (not_printed_first (get_or label i 0) (drop (i + 1) label) out) ∙ sym next ∙ c.loop-byte.invariant
 
 pub loop-byte-preserved : goal.loop-byte-preserved

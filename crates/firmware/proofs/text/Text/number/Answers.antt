@@ -10,8 +10,8 @@ loop-rest-init c =
     let number = c.args.number in
     (refl, omega arith, omega arith, length-decimal-le 20 number (omega arith) (omega arith) (omega arith), sym (append-nil (decimal number)))
 
-pub overflow-sub-start-in-loop-rest : goal.overflow-sub-start-in-loop-rest
-overflow-sub-start-in-loop-rest c = omega (arith, one_less c.loop-rest.rest (omega arith) (omega arith))
+pub overflow_sub-start-in-loop-rest : goal.overflow_sub-start-in-loop-rest
+overflow_sub-start-in-loop-rest c = omega (arith, one_less c.loop-rest.rest (omega arith) (omega arith))
 
 pub loop-rest-preserved : goal.loop-rest-preserved
 loop-rest-preserved c =

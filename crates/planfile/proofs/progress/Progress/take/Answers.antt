@@ -6,35 +6,35 @@ use Rattle.planfile.specs.Rules.{kind_causes, said_causes}
 use Rattle.planfile.proofs.Entering.{said, said_itself, refused_early, refused_late}
 use Rattle.planfile.proofs.progress.Progress.take.Goals as goal
 
-pub returns-in-err-admit : goal.returns-in-err-admit
-returns-in-err-admit c =
+pub returns-in_err-admit : goal.returns-in_err-admit
+returns-in_err-admit c =
     let next = c.args.next.now in
     let by_kind = kind_causes c.args.self.now.last next.kind (length next.body.now) in
     let by_word_lem = said_causes (length c.args.list.now) (reading_in c.args.self.now c.args.list.now) (entry_of next.kind next.body.now) in
-    let is : c.from-residual.result ≡ Err c.in-err-admit.field-0.0 = search rules in
+    let is : c.from_residual.result ≡ Err c.in_err-admit.field-0.0 = search rules in
     record {
-      answer = is ∙ refused_early by_kind by_word_lem c.in-err-admit.ensures;
+      answer = is ∙ refused_early by_kind by_word_lem c.in_err-admit.ensures;
       reading = λ ok. absurd (both_ways false refl (sym (ap is_ok is) ∙ ok));
       last = λ ok. absurd (both_ways false refl (sym (ap is_ok is) ∙ ok));
-      again = λ passed. absurd (both_ways false refl (ap is_ok (c.in-err-admit.ensures ∙ ap refused_by passed)));
+      again = λ passed. absurd (both_ways false refl (ap is_ok (c.in_err-admit.ensures ∙ ap refused_by passed)));
       size = search rules;
       filled = λ few. few;
     }
 
-pub returns-in-err-enter : goal.returns-in-err-enter
-returns-in-err-enter c =
+pub returns-in_err-enter : goal.returns-in_err-enter
+returns-in_err-enter c =
     let next = c.args.next.now in
     let by_kind = kind_causes c.args.self.now.last next.kind (length next.body.now) in
     let by_word_lem = said_causes (length c.args.list.now) (reading_in c.args.self.now c.args.list.now) (entry_of next.kind next.body.now) in
-    let is : c.from-residual-in-err-enter.result ≡ Err c.in-err-enter.field-0.0 = search rules in
-    let entered = said c.in-ok-entry.ensures.read c.in-err-enter.ensures.entered in
+    let is : c.from_residual-in_err-enter.result ≡ Err c.in_err-enter.field-0.0 = search rules in
+    let entered = said c.in_ok-entry.ensures.read c.in_err-enter.ensures.entered in
     record {
-      answer = is ∙ refused_late by_kind by_word_lem c.in-ok-admit.ensures entered.answered;
+      answer = is ∙ refused_late by_kind by_word_lem c.in_ok-admit.ensures entered.answered;
       reading = λ ok. absurd (both_ways false refl (sym (ap is_ok is) ∙ ok));
       last = λ ok. absurd (both_ways false refl (sym (ap is_ok is) ∙ ok));
-      again = λ passed. said_itself c.in-ok-entry.ensures;
+      again = λ passed. said_itself c.in_ok-entry.ensures;
       size = search rules;
-      filled = c.in-err-enter.ensures.filled;
+      filled = c.in_err-enter.ensures.filled;
     }
 
 pub returns : goal.returns
@@ -42,12 +42,12 @@ returns c =
     let next = c.args.next.now in
     let by_kind = kind_causes c.args.self.now.last next.kind (length next.body.now) in
     let by_word_lem = said_causes (length c.args.list.now) (reading_in c.args.self.now c.args.list.now) (entry_of next.kind next.body.now) in
-    let entered = said c.in-ok-entry.ensures.read c.in-ok-enter.ensures.entered in
+    let entered = said c.in_ok-entry.ensures.read c.in_ok-enter.ensures.entered in
     record {
-      answer = refused_late by_kind by_word_lem c.in-ok-admit.ensures entered.answered;
+      answer = refused_late by_kind by_word_lem c.in_ok-admit.ensures entered.answered;
       reading = entered.reading;
       last = λ ok. refl;
-      again = λ passed. said_itself c.in-ok-entry.ensures;
+      again = λ passed. said_itself c.in_ok-entry.ensures;
       size = search rules;
-      filled = c.in-ok-enter.ensures.filled;
+      filled = c.in_ok-enter.ensures.filled;
     }
