@@ -19,9 +19,8 @@ pub fn certify_file(file: &[u8]) -> Result<Certificate, Fault>
     Ok(certify(&plan, &FileCores::new(&blocks, layers)))
 }
 
-// 0 for a certified file, else the number of its refusal, 1 to 11. C has it as a pointer and a length; it keeps and alters nothing.
-#[unsafe(no_mangle)]
-pub extern "C" fn vaxerku_certify(file: &[u8]) -> u32
+// 0 for a certified file, else the number of its refusal, 1 to 11: what C gets.
+pub fn vaxerku_certify(file: &[u8]) -> u32
     ensures number { result ≡ number_by (file_certificate file.now) }
     ensures law { NumberLaw file.now result }
 {

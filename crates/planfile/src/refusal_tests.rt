@@ -7,18 +7,24 @@ use std::alloc::Global;
 use std::process::Abort;
 use std::test::Fail;
 
-// A file is refused by a number at a place, and nothing is left of an older plan and older blocks.
-fn refused(rt: &impl Abort, file: &[u8], number: u8, place: usize) -> Result<(), Fail> {
+// A file is refused by a number at a place, and nothing is left of an older plan and older blocks. A failure names the case.
+fn refused(
+    rt: &impl Abort,
+    case: usize,
+    file: &[u8],
+    number: u8,
+    place: usize,
+) -> Result<(), Fail> {
     let mut plan = Plan::empty();
     let mut blocks = [OLD_BLOCK; 64];
     read(HIDE, &mut plan, &mut blocks)?;
     blocks.fill(OLD_BLOCK);
     let answer = read(file, &mut plan, &mut blocks);
-    assert_eq!(rt; refusal_in(answer), Some((number, place)));
-    assert!(rt; plan.is_empty());
-    assert_eq!(rt; (plan.deadline(), plan.volume()), (0, 0));
+    assert_eq!(rt; refusal_in(answer), Some((number, place)), "case {case}");
+    assert!(rt; plan.is_empty(), "case {case}");
+    assert_eq!(rt; (plan.deadline(), plan.volume()), (0, 0), "case {case}");
     for block in blocks {
-        assert_eq!(rt; (block.cores, block.ticks), (0, 0));
+        assert_eq!(rt; (block.cores, block.ticks), (0, 0), "case {case}");
     }
     Ok(())
 }
@@ -35,7 +41,7 @@ fn refuses(
         let mut file = file_of(heap, good)?;
         let place = file.len();
         add(&mut file, *record)?;
-        refused(rt, &file, number, place).note(format_args!("record {case}"))?;
+        refused(rt, case, &file, number, place)?;
     }
     Ok(())
 }
@@ -49,9 +55,9 @@ struct Case<'a> {
 }
 
 fn all_refused(rt: &impl Abort, heap: Global, cases: &[Case<'_>]) -> Result<(), Fail> {
-    for (place, case) in cases.iter().enumerate() {
+    for (n, case) in cases.iter().enumerate() {
         let file = file_of(heap, case.parts)?;
-        refused(rt, &file, case.number, case.place).note(format_args!("case {place}"))?;
+        refused(rt, n, &file, case.number, case.place)?;
     }
     Ok(())
 }
@@ -398,11 +404,11 @@ fn the_first_implied_edge_is_named(rt: HostRuntime) -> Result<(), Fail> {
             36,
         ),
     ];
-    for (edges, place) in cases {
+    for (n, &(edges, place)) in cases.iter().enumerate() {
         let mut file = file_of(heap, &[Deadline(10), Steps(4)])?;
         file.extend_from_slice(&file_of(heap, edges)?)?;
         add(&mut file, Block(1, 10))?;
-        refused(&rt, &file, 10, place)?;
+        refused(&rt, n, &file, 10, place)?;
     }
     Ok(())
 }

@@ -171,13 +171,17 @@ struct Case<'a> {
     layers: Layers,
 }
 
-fn is_read(rt: &impl Abort, file: &[u8], case: &Case<'_>) -> Result<(), Fail> {
+fn is_read(rt: &impl Abort, n: usize, file: &[u8], case: &Case<'_>) -> Result<(), Fail> {
     let mut plan = Plan::empty();
     let mut blocks = [OLD_BLOCK; 1];
-    assert_eq!(rt; read(file, &mut plan, &mut blocks), Ok(case.layers));
-    assert_eq!(rt; plan.deadline(), case.deadline);
-    assert_eq!(rt; plan.time(0), Some(case.time));
-    assert_eq!(rt; (blocks[0].cores, blocks[0].ticks), case.block);
+    assert_eq!(rt;
+        read(file, &mut plan, &mut blocks),
+        Ok(case.layers),
+        "case {n}"
+    );
+    assert_eq!(rt; plan.deadline(), case.deadline, "case {n}");
+    assert_eq!(rt; plan.time(0), Some(case.time), "case {n}");
+    assert_eq!(rt; (blocks[0].cores, blocks[0].ticks), case.block, "case {n}");
     Ok(())
 }
 
@@ -257,9 +261,9 @@ fn values_and_layers(rt: HostRuntime) -> Result<(), Fail> {
             },
         },
     ];
-    for (place, case) in cases.iter().enumerate() {
+    for (n, case) in cases.iter().enumerate() {
         let file = file_of(rt.alloc(), case.parts)?;
-        is_read(&rt, &file, case).note(format_args!("case {place}"))?;
+        is_read(&rt, n, &file, case)?;
     }
     Ok(())
 }
