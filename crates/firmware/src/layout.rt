@@ -1,6 +1,5 @@
 // The text of an answer, laid out in a place of fixed size.
-ghost use Rattle.std.specs.Prelude.{◌≡◌, ℕ, ◌+◌, ◌^◌, ◌<◌, ◌≤◌, [], ◌∷◌, ◌++◌, length, take, decimal};
-ghost use Rattle.std.specs.List.{AllByRecursion as All};
+ghost use Rattle.std.specs.Prelude.{◌≡◌, ℕ, ◌+◌, ◌^◌, ◌<◌, ◌≤◌, [], ◌∷◌, ◌++◌, length, take, decimal, All};
 ghost use Rattle.firmware.specs.Text.{content, line, certificate_text, fault_text, text_of, laid_out, Legible};
 
 use crate::text::{TEXT_SIZE, Text};

@@ -1,5 +1,6 @@
 use Rattle.std.proofs.Common.{◌≡◌, ℕ, ◌^◌, ◌<◌, ◌++◌, take, sym, ap, ◌∙◌, subst, arith}
 use Rattle.std.proofs.lemmas.Fmt.{decimal_is_IsNumeral, first_decimal}
+use Rattle.std.proofs.lemmas.List.Elements.{All-from_recursion}
 use Rattle.firmware.specs.Text.{content, certificate_text, fault_text, text_of, Legible}
 use Rattle.firmware.proofs.Sizes.{Clear, certificate_clear, fault_clear, laid}
 use Rattle.firmware.proofs.layout.lay_out.Goals as goal
@@ -14,7 +15,7 @@ returns-in-Ok c =
     let cut = c.certificate_lines.ensures ∙ ap (λ before. take 128 (before ++ certificate_text certificate)) c.empty-text.ensures ∙ ap (λ answer. take 128 (text_of answer)) is in
     let clear = subst (λ answer. Clear 128 (text_of answer)) is (certificate_clear certificate (omega arith) (omega arith) (omega arith) (omega arith)) in
     let there = laid c.certificate_lines.new.text c.args.answer cut clear in
-    record { bytes = there.1; content = there.0; fits = clear.fits; whole = clear.whole; legible = legible }
+    record { bytes = there.1; content = there.0; fits = clear.fits; whole = All-from_recursion (λ byte. 0 < byte) (text_of c.args.answer) clear.whole; legible = legible }
 
 pub returns-in-Err : goal.returns-in-Err
 returns-in-Err c =
@@ -23,4 +24,4 @@ returns-in-Err c =
     let cut = c.fault_line.ensures ∙ ap (λ before. take 128 (before ++ fault_text fault)) c.empty-text.ensures ∙ ap (λ answer. take 128 (text_of answer)) is in
     let clear = subst (λ answer. Clear 128 (text_of answer)) is (fault_clear fault (omega arith)) in
     let there = laid c.fault_line.new.text c.args.answer cut clear in
-    record { bytes = there.1; content = there.0; fits = clear.fits; whole = clear.whole; legible = legible }
+    record { bytes = there.1; content = there.0; fits = clear.fits; whole = All-from_recursion (λ byte. 0 < byte) (text_of c.args.answer) clear.whole; legible = legible }
