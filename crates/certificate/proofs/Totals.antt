@@ -1,5 +1,5 @@
 -- Sums over a run of ticks.
-use Rattle.std.proofs.Common.{◌≡◌, ℕ, zero, suc, ◌+◌, ◌<◌, ◌≤◌, sym, refl, ap, ◌∙◌, add-zero, add-suc, suc-add, arith}
+use Rattle.std.proofs.Common.{◌≡◌, ℕ, zero, suc, ◌+◌, ◌≤◌, refl, ap, add-zero, arith}
 use Rattle.certificate.specs.Marking.{total}
 
 -- one tick more at the end

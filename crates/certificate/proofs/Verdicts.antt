@@ -1,9 +1,9 @@
 -- What the least yield decides.
-use Rattle.std.proofs.Common.{◌≡◌, ℕ, zero, suc, ◌+◌, ◌-◌, ◌<◌, ◌≤◌, min, leb, Some, None, Option, sym, refl, ap, ◌∙◌, ap₂, arith}
+use Rattle.std.proofs.Common.{◌≡◌, ℕ, zero, suc, ◌+◌, ◌-◌, ◌<◌, ◌≤◌, leb, Some, sym, ap, ◌∙◌, ap₂, arith}
 use mathlib.Core.Path.{fun_ext}
 use Rattle.std.proofs.lemmas.Bool.{le-leb, lt-leb, cond-true, cond-false}
 use Rattle.certificate.specs.Allowance.{allowance}
-use Rattle.certificate.specs.Marking.{ticks, offered, least, least_yield, LeastYield, Passes, Fails, first_enough, least_ceiling, Smallest, LeastCeiling}
+use Rattle.certificate.specs.Marking.{ticks, offered, least, least_yield, LeastYield, Passes, Fails, first_enough, Smallest}
 use Rattle.certificate.proofs.Heights.{reaching, stacked}
 use Rattle.certificate.specs.declared.marking_test.MarkingTest.{MarkingTest}
 use Rattle.certificate.proofs.Choosing.{least_bounds, least_reached}

@@ -1,8 +1,7 @@
 ghost use Rattle.std.specs.Prelude.{◌≡◌, ◌<◌, MatchOption};
-ghost use Rattle.std.proofs.Math.Path.{ap};
 ghost use Rattle.dispatch.specs.Picks.{next_after, last_after, LeastAbove, NoneAbove, NextAfter, Picks};
-ghost use Rattle.dispatch.specs.Right.{next_inside, next_empty, last_empty};
-ghost use Rattle.dispatch.specs.RoundPolicyLemmas.{standing};
+ghost use Rattle.dispatch.specs.Right.{next_inside, next_empty};
+ghost use Rattle.dispatch.specs.RoundPolicyLemmas.{round_stays};
 
 use crate::policy::{NO_STEP, Policy};
 use graph::StepSet;
@@ -49,7 +48,7 @@ impl Policy for Round {
 
     ghost inside = { λ policy ready n within inside. next_inside ready n within inside policy.last };
 
-    ghost empty = { unfold standing in λ policy ready none. (next_empty ready none policy.last, ap standing (last_empty ready none policy.last)) };
+    ghost empty = { λ policy ready none. (next_empty ready none policy.last, round_stays policy ready none) };
 
     fn pick(&mut self, ready: StepSet) -> u8
         ensures step { result ≡ next_after self.old.last ready }

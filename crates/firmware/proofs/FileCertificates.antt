@@ -1,5 +1,5 @@
 -- A file's certificate, by what the file says.
-use Rattle.std.proofs.Common.{◌≡◌, ℕ, ◌-◌, ◌<◌, ◌≤◌, Bool, true, false, leb, ◌↔◌, List, [], length, Ok, Err, MatchBool, Result, unwrap_or, sym, refl, ap, ◌∙◌, subst, ap₂, inl, inr, ⊎_elim, arith}
+use Rattle.std.proofs.Common.{◌≡◌, ℕ, ◌-◌, ◌≤◌, Bool, true, false, leb, ◌↔◌, List, length, Ok, Err, MatchBool, Result, unwrap_or, sym, refl, ap, ◌∙◌, subst, ap₂, inl, inr, ⊎_elim, arith}
 use Rattle.std.proofs.lemmas.List.{nil_from_length}
 use Rattle.std.proofs.lemmas.Bool.{both_ways, cases_eq, le-leb, lt-leb, leb-true, leb-false}
 use Rattle.certificate.specs.Certified.{whole_test, Certified, Uncertified}
@@ -20,7 +20,7 @@ use Rattle.planfile.specs.declared.cause.Cause.TheVariants.{CutShort, UnknownKin
 use Rattle.planfile.specs.declared.cause.Fault.{Fault}
 use Rattle.planfile.specs.declared.layers.Layers.{Layers}
 use Rattle.planfile.proofs.Outcomes.{both_answers, same_bad, same_value}
-use Rattle.firmware.specs.Certificates.{CertificateLaw, NumberLaw, OfPlan, number_by, certificate_by, certificate_of, file_certificate, test_in, volume_in, width_in, length_in}
+use Rattle.firmware.specs.Certificates.{CertificateLaw, NumberLaw, OfPlan, number_by, certificate_by, certificate_of, file_certificate, test_in, volume_in, width_in}
 use Rattle.firmware.specs.Cores.{granted}
 use Rattle.firmware.proofs.Granting.{granted_with_zeros}
 use Rattle.firmware.proofs.PlanMeasures.{count_is, volume_is, length_is}

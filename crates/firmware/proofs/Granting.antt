@@ -1,5 +1,5 @@
 -- The stack of a file's layers has the widths that the file grants.
-use Rattle.std.proofs.Common.{◌≡◌, ℕ, zero, suc, List, [], ◌∷◌, ◌++◌, length, get_or, replicate, unwrap_or, sym, refl, ap, ◌∙◌}
+use Rattle.std.proofs.Common.{◌≡◌, ℕ, zero, suc, List, [], ◌∷◌, ◌++◌, get_or, replicate, unwrap_or, refl, ap}
 use Rattle.cores.specs.Ladders.{ladder, laid_out}
 use Rattle.cores.specs.Widths.{capped, held, delayed}
 use Rattle.cores.specs.declared.ladder.Block.{Block}

@@ -1,15 +1,14 @@
 -- What is measured of a plan, by what the plan was made of.
-use Rattle.std.proofs.Common.{◌≡◌, ℕ, zero, suc, ◌<◌, ◌≤◌, max, true, List, [], ◌∷◌, map, length, get_or, take, Some, None, sum, Option, unwrap_or, sym, refl, ap, ◌∙◌, subst, ap₂, ⊎_elim, arith}
-use Rattle.std.specs.List.{AllByRecursion as All}
+use Rattle.std.proofs.Common.{◌≡◌, ℕ, zero, suc, ◌<◌, ◌≤◌, max, List, map, length, get_or, Some, None, sum, Option, unwrap_or, sym, refl, ap, ◌∙◌, subst, ap₂, ⊎_elim, arith}
 use Rattle.std.proofs.lemmas.List.{get_or-take, get_or_past, length-take-le}
 use Rattle.std.proofs.lemmas.Bool.{cases_lt}
 use Rattle.graph.specs.Asked.{steps_of, time_in, before_in, volume_of, length_of}
-use Rattle.graph.specs.Drafts.{Content, PlanOf, listed}
-use Rattle.graph.specs.Graphs.{time_of, set_before, before}
+use Rattle.graph.specs.Drafts.{Content, PlanOf}
+use Rattle.graph.specs.Graphs.{time_of, set_before}
 use Rattle.graph.specs.Implied.{from_steps}
 use Rattle.graph.specs.Lengths.{longest}
 use Rattle.graph.specs.Measures.{lengthened, length_at}
-use Rattle.graph.specs.Paths.{Among, IsPath, EndsAt, paths}
+use Rattle.graph.specs.Paths.{Among, paths}
 use Rattle.graph.specs.Walks.{join_all, carried}
 use Rattle.graph.specs.declared.plan.Plan.{Plan}
 use Rattle.graph.proofs.DraftEdges.{path_over}

@@ -1,5 +1,5 @@
 -- Implied edges by the sets of steps on paths.
-use Rattle.std.proofs.Common.{◌≡◌, ℕ, ◌<◌, ◌≤◌, Bool, true, false, not, ◌&&◌, eqb, ◌⊎◌, List, get_or, Some, Decides, sym, refl, ap, ◌∙◌, subst, inl, inr, ⊎_elim, arith}
+use Rattle.std.proofs.Common.{◌≡◌, ℕ, ◌<◌, Bool, true, false, not, ◌&&◌, eqb, ◌⊎◌, List, get_or, Some, Decides, sym, refl, ap, ◌∙◌, inl, inr, ⊎_elim, arith}
 use Rattle.std.proofs.lemmas.Bool.{cases_lt, both_ways, ne_eqb, eqb-true, eq-eqb, not-false, not_from_true, and_parts, and_cases}
 use Rattle.std.proofs.lemmas.Bool.Decides.{Decides-at}
 use Rattle.graph.specs.Graphs.{time_of, set_before, before}

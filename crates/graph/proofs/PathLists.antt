@@ -1,5 +1,5 @@
 -- The list of paths has each path, and nothing else; and each once.
-use Rattle.std.proofs.Common.{◌≡◌, ℕ, zero, suc, ◌<◌, ◌⊎◌, List, [], ◌∷◌, map, sym, refl, ap, ◌∙◌, subst, inl, inr, ⊎_elim, arith}
+use Rattle.std.proofs.Common.{◌≡◌, ℕ, zero, suc, ◌<◌, List, [], ◌∷◌, map, sym, refl, ◌∙◌, subst, inl, inr, arith}
 use Rattle.graph.specs.Paths.{Among, Distinct, IsPath, EndsAt, AllPaths, ways, paths_within, paths}
 use Rattle.graph.proofs.Listing.{among_map, map_among, distinct_map, among_joined, joined_among, distinct_joined}
 

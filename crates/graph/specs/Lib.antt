@@ -8,6 +8,7 @@ pub mod Implied
 pub mod Refusals
 pub mod Drafts
 pub mod Measures
+pub mod LengthLaws
 pub mod Lengths
 pub mod Asked
 pub mod SetLaws

@@ -1,6 +1,6 @@
 ghost use Rattle.std.specs.Prelude.{max};
+ghost use Rattle.graph.specs.LengthLaws.{lengthened_spreads, max_commutes, max_groups};
 ghost use Rattle.graph.specs.Measures.{lengthened};
-ghost use Rattle.std.proofs.Common.{rules};
 
 use crate::measure::Measure;
 
@@ -17,11 +17,11 @@ impl Measure for Length {
 
     ghost carry = { λ _. lengthened };
 
-    ghost commutes = { Prim.search rules };
+    ghost commutes = { λ _ a b. max_commutes a b };
 
-    ghost groups = { Prim.search rules };
+    ghost groups = { λ _ a b c. max_groups a b c };
 
-    ghost spreads = { Prim.search rules };
+    ghost spreads = { λ _ a b step time. lengthened_spreads a b step time };
 
     fn start(&self) -> u32 {
         0

@@ -1,19 +1,17 @@
 -- One record further.
-use Rattle.std.proofs.Common.{◌≡◌, ℕ, ◌+◌, ◌-◌, ◌<◌, ◌≤◌, Bool, true, ◌||◌, ◌⊎◌, List, [], ◌∷◌, ◌++◌, length, Some, None, Ok, Err, Option, Result, sym, refl, ap, ◌∙◌, subst, ap₂, inl, inr, ⊎_elim, arith}
+use Rattle.std.proofs.Common.{◌≡◌, ℕ, ◌-◌, ◌<◌, ◌≤◌, true, ◌⊎◌, List, ◌∷◌, ◌++◌, length, Some, None, Ok, Err, Option, Result, sym, refl, ap, ◌∙◌, subst, ap₂, inl, inr, arith}
 use Rattle.std.proofs.lemmas.List.{append_assoc, length-append}
-use Rattle.std.proofs.lemmas.Bool.{cond-true}
 use Rattle.cores.specs.declared.ladder.Block.{Block}
 use Rattle.planfile.specs.Cutting.{ReadTo, AllRead, Says, reading_in, refused_by}
 use Rattle.planfile.specs.Files.{fault, BadRecord, WrongKind, WrongEntry}
 use Rattle.planfile.specs.Records.{Entry, kind_of, body_of, encoded, file_of, entry_of}
-use Rattle.planfile.specs.Rules.{Reading, reading_of, last_kind, taken, kind_causes, said_causes, causes, first_cause, cut_short, front_cause}
+use Rattle.planfile.specs.Rules.{reading_of, last_kind, taken, kind_causes, said_causes, causes, first_cause, cut_short}
 use Rattle.planfile.specs.declared.cause.Cause.{Cause}
 use Rattle.planfile.specs.declared.cause.Cause.TheVariants.{CutShort}
 use Rattle.planfile.specs.declared.cause.Fault.{Fault}
 use Rattle.planfile.specs.declared.progress.Progress.{Progress}
 use Rattle.planfile.proofs.Bytes.{encoded_size, no_record}
 use Rattle.planfile.proofs.Entering.{was_some, was_none, first_left}
-use Rattle.planfile.proofs.Runs.{whole_cause}
 
 -- the same under another name
 pub bad_with : {places others : ℕ} {file : List ℕ} {bad : Fault} → places ≡ others → BadRecord places file bad → BadRecord others file bad

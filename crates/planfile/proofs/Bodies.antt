@@ -1,7 +1,7 @@
 -- What a body says is laid out in the same bytes again.
-use Rattle.std.proofs.Common.{◌≡◌, ℕ, ◌+◌, ◌*◌, ◌/◌, ◌%◌, ◌<◌, ◌≤◌, List, [], ◌∷◌, ◌++◌, length, get_or, drop, sym, refl, ap, ◌∙◌, subst, ap₂, arith}
+use Rattle.std.proofs.Common.{◌≡◌, ℕ, ◌+◌, ◌*◌, ◌<◌, ◌≤◌, List, [], ◌∷◌, ◌++◌, length, get_or, drop, sym, refl, ap, ◌∙◌, subst, ap₂, arith}
 use Rattle.planfile.specs.Cutting.{Says}
-use Rattle.planfile.specs.Records.{Entry, deadline, step, edge, block, hold_back, late, two, number_at, entry_of}
+use Rattle.planfile.specs.Records.{Entry, deadline, step, edge, block, hold_back, late, two, number_at}
 
 -- two bytes and the number that they make
 two_again : (low high : ℕ) → low < 256 → two (low + 256 * high) ≡ low ∷ (high ∷ [])

@@ -1,5 +1,5 @@
 -- What becomes of a file whose records are good.
-use Rattle.std.proofs.Common.{◌≡◌, ℕ, zero, suc, ◌+◌, ◌<◌, ◌≤◌, Bool, true, false, eqb, ◌⊎◌, List, [], ◌∷◌, ◌++◌, length, get_or, take, is_some, Some, None, Ok, Err, Option, sym, refl, ap, ◌∙◌, subst, inl, inr, ⊎_elim, arith}
+use Rattle.std.proofs.Common.{◌≡◌, ℕ, zero, suc, ◌<◌, Bool, true, false, List, [], ◌∷◌, length, get_or, take, is_some, Some, None, Ok, Err, Option, sym, refl, ap, ◌∙◌, subst, inl, inr, ⊎_elim, arith}
 use Rattle.std.specs.Option.{option_map}
 use Rattle.std.specs.List.{slice_get}
 use Rattle.std.proofs.lemmas.List.{length-append, length-take-le, nil_from_length}
@@ -10,11 +10,10 @@ use Rattle.graph.specs.Implied.{FirstImpliedBy, NoneImpliedBy, first_implied}
 use Rattle.graph.specs.declared.refusal.Refusal.{Refusal}
 use Rattle.graph.specs.declared.refusal.Refusal.TheVariants as refusal
 use Rattle.planfile.specs.Cutting.{ReadTo}
-use Rattle.planfile.specs.Files.{fault, of_kind, outcome, MadeOf, Unready, Accepted, PartMissing, EdgeImplied, Refused, FileLaw}
-use Rattle.planfile.specs.Records.{Entry, deadline, step, edge, block, hold_back, late, kind_of, body_of, file_of}
-use Rattle.planfile.specs.Rules.{Reading, reading_of}
+use Rattle.planfile.specs.Files.{fault, of_kind, outcome, MadeOf, Unready, Accepted, Refused, FileLaw}
+use Rattle.planfile.specs.Records.{Entry, deadline, step, edge, block, hold_back, late, file_of}
+use Rattle.planfile.specs.Rules.{reading_of}
 use Rattle.planfile.specs.declared.cause.Cause.TheVariants.{Incomplete, ImpliedEdge}
-use Rattle.planfile.specs.declared.cause.Fault.{Fault}
 use Rattle.planfile.specs.declared.progress.Progress.{Progress}
 use Rattle.planfile.proofs.Outcomes.{accepted_outcome, accepted_file, refused_outcome, refused_file, missing_file, missing_outcome}
 

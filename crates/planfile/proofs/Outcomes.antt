@@ -1,17 +1,16 @@
 -- What the law says of a file, its outcome has.
-use Rattle.std.proofs.Common.{◌≡◌, ℕ, ◌+◌, ◌-◌, ◌<◌, ◌≤◌, Bool, true, false, cond, ◌||◌, eqb, ◌⊎◌, ◌↔◌, List, [], ◌∷◌, ◌++◌, length, get_or, is_some, is_ok, Some, None, Ok, Err, Option, Result, sym, refl, ap, ◌∙◌, subst, ap₂, inl, inr, ⊎_elim, arith}
+use Rattle.std.proofs.Common.{◌≡◌, ℕ, ◌<◌, true, false, List, [], length, get_or, is_some, is_ok, Some, None, Ok, Err, Option, Result, sym, refl, ap, ◌∙◌, subst, inl, inr}
 use Rattle.std.specs.Option.{option_map}
 use Rattle.std.specs.List.{slice_get}
 use Rattle.std.proofs.lemmas.List.{nil_from_length}
 use Rattle.std.proofs.lemmas.Bool.{both_ways, cond-false, cond-true, eq-eqb, ne_eqb, or_from, or_left, or_right}
-use Rattle.graph.specs.Drafts.{Content, Lacks, FinishLaw, finish_refusal, lacking}
-use Rattle.graph.specs.Implied.{FirstImpliedBy, NoneImpliedBy, first_implied}
+use Rattle.graph.specs.Drafts.{Content, FinishLaw, finish_refusal, lacking}
+use Rattle.graph.specs.Implied.{FirstImpliedBy, first_implied}
 use Rattle.graph.specs.declared.refusal.Refusal.{Refusal}
 use Rattle.graph.specs.declared.refusal.Refusal.TheVariants as refusal
-use Rattle.planfile.specs.Files.{fault, read_on, unready, of_kind, begins, unless_implied, at_end, outcome, Keeps, MadeOf, Unready, Accepted, BadRecord, PartMissing, EdgeImplied, Refused, FileLaw}
+use Rattle.planfile.specs.Files.{fault, read_on, unready, of_kind, begins, unless_implied, at_end, outcome, MadeOf, Unready, Accepted, BadRecord, PartMissing, Refused, FileLaw}
 use Rattle.planfile.specs.Records.{Entry}
 use Rattle.planfile.specs.Rules.{Reading, reading_of}
-use Rattle.planfile.specs.declared.cause.Cause.{Cause}
 use Rattle.planfile.specs.declared.cause.Cause.TheVariants.{Incomplete, ImpliedEdge}
 use Rattle.planfile.specs.declared.cause.Fault.{Fault}
 use Rattle.planfile.proofs.Runs.{read_all, read_bad}

@@ -1,5 +1,5 @@
 -- What the parts of the reader promise one another.
-use Rattle.std.specs.Prelude.{◌≡◌, ℕ, ◌+◌, ◌≤◌, Bool, true, false, ◌||◌, List, ◌++◌, length, take, is_ok, Some, None, Ok, Err, Option, Result}
+use Rattle.std.specs.Prelude.{◌≡◌, ℕ, ◌+◌, ◌≤◌, true, ◌||◌, List, ◌++◌, length, take, is_ok, Some, None, Ok, Err, Option, Result}
 use Rattle.std.specs.Borrow.{Bor}
 use Rattle.cores.specs.declared.ladder.Block.{Block}
 use Rattle.graph.specs.Drafts.{PlanOf, content}

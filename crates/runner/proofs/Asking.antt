@@ -1,6 +1,6 @@
 -- A policy that keeps its laws picks as many different steps of a set as it is asked for.
-use Rattle.std.proofs.Common.{◌≡◌, ℕ, zero, suc, ◌+◌, ◌<◌, ◌≤◌, Bool, true, false, not, ◌&&◌, ◌||◌, eqb, ltb, ◌⊎◌, List, [], ◌∷◌, length, sym, refl, ap, ◌∙◌, subst, ap₂, inl, inr, ⊎_elim, arith}
-use Rattle.std.proofs.lemmas.Bool.{both_ways, cases_Bool, cases_lt, cases_eq, eqb-true, eq-eqb, ne_eqb, lt-ltb, and_parts, and_from, or_cases, or_left, or_right, not-true}
+use Rattle.std.proofs.Common.{◌≡◌, ℕ, zero, suc, ◌+◌, ◌<◌, ◌≤◌, Bool, true, false, not, ◌&&◌, ◌||◌, ltb, List, [], ◌∷◌, length, sym, refl, ap, ◌∙◌, subst, inl, ⊎_elim, arith}
+use Rattle.std.proofs.lemmas.Bool.{both_ways, cases_Bool, cases_eq, eqb-true, eq-eqb, ne_eqb, lt-ltb, and_parts, and_from, or_cases, or_right}
 use Rattle.certificate.specs.Marking.{total, one_if}
 use Rattle.certificate.proofs.Totals.{total_agree}
 use Rattle.graph.specs.Sets.{has, none, members, with_step, without_step}
@@ -11,7 +11,7 @@ use Rattle.graph.proofs.Order.{member_has}
 use Rattle.graph.specs.SetLaws.{has_none, has_with, has_without}
 use Rattle.runner.specs.Asks.{asks}
 use Rattle.runner.specs.Traces.{size}
-use Rattle.runner.proofs.Counts.{size_sum, total_below, total_zero}
+use Rattle.runner.proofs.Counts.{size_sum}
 
 -- two sums that differ by one in one place
 total_bump : (f g : ℕ → ℕ) (a n x : ℕ) → a ≤ x → x < a + n → g x ≡ f x + 1 → ((y : ℕ) → (y ≡ x → ⊥) → g y ≡ f y) → total g a n ≡ total f a n + 1

@@ -1,10 +1,10 @@
 -- Sets and sums over their steps.
-use Rattle.std.proofs.Common.{◌≡◌, ℕ, zero, suc, ◌+◌, ◌<◌, ◌≤◌, Bool, true, false, cond, ◌&&◌, ◌||◌, eqb, ltb, ◌⊎◌, List, [], ◌∷◌, length, filter, sym, refl, ap, ◌∙◌, subst, ap₂, inl, inr, ⊎_elim, add-one, arith}
+use Rattle.std.proofs.Common.{◌≡◌, ℕ, zero, suc, ◌+◌, ◌<◌, ◌≤◌, Bool, true, false, cond, List, ◌∷◌, length, filter, sym, refl, ap, ◌∙◌, subst, ⊎_elim, add-one, arith}
 use Rattle.std.specs.List.{range_with_len}
-use Rattle.std.proofs.lemmas.Bool.{both_ways, cases_Bool, cases_lt, cases_eq, eqb-true, eq-eqb, ne_eqb, ltb-true, lt-ltb, and_parts, and_from, or_cases, or_left, or_right}
+use Rattle.std.proofs.lemmas.Bool.{both_ways, cases_Bool, cases_eq, eqb-true, eq-eqb, lt-ltb, and_parts, and_from, or_cases, or_left, or_right}
 use Rattle.certificate.specs.Marking.{total, one_if}
 use Rattle.certificate.proofs.Totals.{total_agree}
-use Rattle.graph.specs.Sets.{has, members, with_step}
+use Rattle.graph.specs.Sets.{has, members}
 use Rattle.graph.specs.declared.step_set.StepSet.{StepSet}
 use Rattle.graph.specs.SetLaws.{has_none, has_with}
 use Rattle.runner.specs.Traces.{size, gathered}

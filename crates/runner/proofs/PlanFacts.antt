@@ -1,13 +1,13 @@
 -- What every plan has: its longest path and its volume, as the timing of its runs needs them.
-use Rattle.std.proofs.Common.{◌≡◌, ℕ, zero, suc, ◌+◌, ◌-◌, ◌<◌, ◌≤◌, List, [], ◌∷◌, map, length, get_or, take, Some, None, sum, Option, unwrap_or, sym, refl, ap, ◌∙◌, subst, ap₂, inl, inr, ⊎_elim, add-one, arith}
+use Rattle.std.proofs.Common.{◌≡◌, ℕ, zero, suc, ◌+◌, ◌-◌, ◌<◌, ◌≤◌, List, map, length, get_or, take, Some, None, sum, Option, unwrap_or, sym, refl, ap, ◌∙◌, subst, ap₂, add-one, arith}
 use Rattle.std.proofs.lemmas.List.Sums.{sum_by_more}
 use Rattle.certificate.specs.Marking.{total}
 use Rattle.certificate.proofs.Totals.{total_push}
 use Rattle.graph.specs.Asked.{steps_of, time_in, before_in, volume_of, length_of}
-use Rattle.graph.specs.Lengths.{path_time, longest, Longest}
+use Rattle.graph.specs.Lengths.{path_time, Longest}
 use Rattle.graph.specs.Measures.{lengthened, length_at}
 use Rattle.graph.specs.Paths.{Among, IsPath, EndsAt, AllPaths, paths}
-use Rattle.graph.specs.Walks.{join_all, carried}
+use Rattle.graph.specs.Walks.{carried}
 use Rattle.graph.specs.declared.plan.Plan.{Plan}
 use Rattle.graph.proofs.Listing.{map_among}
 use Rattle.graph.proofs.Order.{before_below, members_distinct}

@@ -1,13 +1,12 @@
 -- What a run does to each step. A turn picks ready steps only, as many as cores are offered, or all of them where these are fewer.
-use Rattle.std.proofs.Common.{◌≡◌, ℕ, zero, suc, ◌+◌, ◌<◌, ◌≤◌, min, Bool, true, false, cond, not, ◌&&◌, eqb, ltb, ◌⊎◌, List, [], ◌∷◌, length, is_some, Some, None, Option, sym, refl, ap, ◌∙◌, subst, ap₂, inl, inr, ⊎_elim, arith}
+use Rattle.std.proofs.Common.{◌≡◌, ℕ, zero, suc, ◌+◌, ◌<◌, ◌≤◌, min, Bool, true, false, cond, eqb, ◌⊎◌, List, [], ◌∷◌, is_some, Some, None, Option, sym, refl, ap, ◌∙◌, ap₂, inl, inr, ⊎_elim, arith}
 use Rattle.std.specs.Option.{option_or}
-use Rattle.std.proofs.lemmas.Bool.{both_ways, cases_Bool, cases_lt, cases_eq, eqb-true, eqb-false, eq-eqb, ne_eqb, ltb-true, lt-ltb, le-ltb, and_parts, and_from, and_cases, not-true, not-false, not_from_false, not_from_true}
+use Rattle.std.proofs.lemmas.Bool.{both_ways, cases_Bool, cases_lt, cases_eq, eq-eqb, ne_eqb, ltb-true, lt-ltb, and_parts, and_from, and_cases, not-true, not_from_false}
 use Rattle.certificate.specs.Marking.{total, one_if}
 use Rattle.graph.specs.Paths.{Among}
 use Rattle.graph.specs.Sets.{has}
-use Rattle.graph.specs.declared.step_set.StepSet.{StepSet}
 use Rattle.runner.specs.Traces.{Tick, size, clock, ran, finish_of, finished, all_finished, is_ready, ready, work, offer}
-use Rattle.runner.proofs.Counts.{size_sum, gathered_has, has_gathered, total_plus, total_zero, total_short}
+use Rattle.runner.proofs.Counts.{size_sum, gathered_has, has_gathered, total_plus, total_zero}
 
 -- the first of two that may be absent
 pub some_or : {X : Type 0} (first second : Option X) → is_some first ≡ true → is_some (option_or first second) ≡ true

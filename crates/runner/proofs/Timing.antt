@@ -1,17 +1,17 @@
 -- Why a job that passed the test is not late.
-use Rattle.std.proofs.Common.{◌≡◌, ℕ, zero, suc, ◌+◌, ◌-◌, ◌<◌, ◌≤◌, min, Bool, true, false, cond, not, ◌&&◌, eqb, ltb, ◌⊎◌, List, [], ◌∷◌, length, Some, None, sym, refl, ap, ◌∙◌, subst, ap₂, inl, inr, ⊎_elim, arith}
-use Rattle.std.proofs.lemmas.Bool.{both_ways, cases_Bool, cases_lt, cases_eq, cond-true, cond-false, eq-eqb, ne_eqb, ltb-true, ltb-false, lt-ltb, le-ltb, and_parts}
+use Rattle.std.proofs.Common.{◌≡◌, ℕ, suc, ◌+◌, ◌-◌, ◌<◌, ◌≤◌, Bool, true, false, cond, eqb, ltb, List, [], ◌∷◌, length, Some, None, sym, refl, ap, ◌∙◌, subst, ap₂, inl, inr, ⊎_elim, arith}
+use Rattle.std.proofs.lemmas.Bool.{both_ways, cases_Bool, cases_lt, eq-eqb, ne_eqb, ltb-true, ltb-false, and_parts}
 use Rattle.certificate.specs.Allowance.{allowance}
-use Rattle.certificate.specs.Marking.{total, one_if, ticks, offered, Marking, marks, Allowed, yield, Passes}
+use Rattle.certificate.specs.Marking.{total, one_if, offered, Marking, marks, yield, Passes}
 use Rattle.certificate.specs.declared.marking_test.MarkingTest.{MarkingTest}
 use Rattle.certificate.proofs.Totals.{total_agree}
 use Rattle.graph.specs.Lengths.{path_time}
 use Rattle.graph.specs.Paths.{Among, IsPath, EndsAt}
 use Rattle.graph.specs.Sets.{has}
 use Rattle.runner.specs.Traces.{Tick, size, clock, ran, finish_of, finished, all_finished, is_ready, ready, work, offer, idle}
-use Rattle.runner.proofs.Counts.{total_less, total_below, same_size_has, size_some}
+use Rattle.runner.proofs.Counts.{total_less, same_size_has, size_some}
 use Rattle.runner.proofs.Roads.{longer, some_path}
-use Rattle.runner.proofs.Steps.{Turn, Run, Whole, Part, ready_parts, ready_from, has_ready, ready_has, known, never_ran, ran_bound, work_sum, ready_one, first_unfinished, some_or}
+use Rattle.runner.proofs.Steps.{Turn, Run, ready_parts, ready_from, ready_has, known, ran_bound, work_sum, ready_one, first_unfinished, some_or}
 
 -- the test of what is left of a job, under a deadline
 abbrev pub left_test : (ℕ → ℕ) → ℕ → ℕ → List Tick → MarkingTest

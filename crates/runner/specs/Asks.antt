@@ -1,5 +1,5 @@
 -- Asking a policy, which is given by the step that it picks of a set and the state that follows.
-use Rattle.std.specs.Prelude.{ℕ, zero, suc, List}
+use Rattle.std.specs.Prelude.{ℕ, zero, suc}
 use Rattle.graph.specs.Sets.{none, with_step, without_step}
 use Rattle.graph.specs.declared.step_set.StepSet.{StepSet}
 

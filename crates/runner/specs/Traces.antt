@@ -1,6 +1,6 @@
 -- Runs of a job, by their traces. A trace has the ticks that were run since the release, the newest in front; all else is read off it.
 -- A job is given by how many steps it has, the predecessors of each, and the actual time of each; a supply by its width at each tick.
-use Rattle.std.specs.Prelude.{◌≡◌, ℕ, zero, suc, ◌+◌, ◌-◌, min, Bool, true, false, cond, not, ◌&&◌, List, [], ◌∷◌, length, is_some, Some, None, filter, Option, ◌==◌, nat_lt}
+use Rattle.std.specs.Prelude.{ℕ, ◌+◌, ◌-◌, Bool, true, cond, not, ◌&&◌, List, [], ◌∷◌, length, is_some, Some, None, filter, Option, ◌==◌, nat_lt}
 use Rattle.std.specs.List.{range_with_len}
 use Rattle.std.specs.Option.{option_or}
 use Rattle.certificate.specs.Marking.{offered, one_if}

@@ -1,4 +1,4 @@
-use Rattle.std.proofs.Common.{◌≡◌, ℕ, ◌+◌, ◌-◌, ◌<◌, ◌≤◌, length, get_or, sym, refl, ap, ◌∙◌, subst, arith, length-set, rules}
+use Rattle.std.proofs.Common.{◌≡◌, ◌-◌, sym, refl, ap, ◌∙◌, arith, length-set}
 use native.Mathlib.Nat.{sub_self}
 use Rattle.std.proofs.lemmas.List.{get_or-replicate}
 use Rattle.certificate.specs.Widths.{exactly}

@@ -1,4 +1,4 @@
-use Rattle.std.proofs.Common.{◌≡◌, ℕ, Err, sym, ap, ◌∙◌, subst, rules}
+use Rattle.std.proofs.Common.{◌≡◌, ℕ, Err, ◌∙◌, subst, rules}
 use Rattle.graph.specs.Drafts.{PlanOf}
 use Rattle.planfile.specs.Files.{LeavesPlan, outcome}
 use Rattle.planfile.specs.Rules.{reading_of}

@@ -1,4 +1,4 @@
-use Rattle.std.proofs.Common.{◌≡◌, ℕ, List, [], ◌∷◌, ◌++◌, take, Some, None, codes, Option, sym, ap, ◌∙◌}
+use Rattle.std.proofs.Common.{◌≡◌, ℕ, List, ◌++◌, take, Some, None, codes, Option, sym, ap, ◌∙◌}
 use Rattle.certificate.specs.Refusals.{refusal_of}
 use Rattle.certificate.specs.declared.certificate.Certificate.{Certificate}
 use Rattle.firmware.specs.Text.{content, line, verdict, certificate_text}

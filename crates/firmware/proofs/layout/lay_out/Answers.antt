@@ -1,7 +1,7 @@
-use Rattle.std.proofs.Common.{◌≡◌, ℕ, ◌^◌, ◌<◌, ◌++◌, take, sym, ap, ◌∙◌, subst, arith}
+use Rattle.std.proofs.Common.{ℕ, ◌^◌, ◌<◌, ◌++◌, take, sym, ap, ◌∙◌, subst, arith}
 use Rattle.std.proofs.lemmas.Fmt.{decimal_is_IsNumeral, first_decimal}
 use Rattle.std.proofs.lemmas.List.Elements.{All-from_recursion}
-use Rattle.firmware.specs.Text.{content, certificate_text, fault_text, text_of, Legible}
+use Rattle.firmware.specs.Text.{certificate_text, fault_text, text_of, Legible}
 use Rattle.firmware.proofs.Sizes.{Clear, certificate_clear, fault_clear, laid}
 use Rattle.firmware.proofs.layout.lay_out.Goals as goal
 

@@ -1,5 +1,4 @@
-use Rattle.std.proofs.Common.{◌≡◌, ◌<◌, ◌≤◌, ◌++◌, length, Some, sym, refl, ap, ◌∙◌, arith, rules}
-use Rattle.planfile.specs.Records.{encoded}
+use Rattle.std.proofs.Common.{◌≡◌, ◌≤◌, length, Some, sym, ap, ◌∙◌, arith, rules}
 use Rattle.planfile.proofs.Advancing.{shorter}
 use Rattle.planfile.proofs.Bytes.{encoded_size}
 use Rattle.planfile.proofs.Lookups.{from_start, past_end, next, never_short, pass_other, pass_one, the_one, the_place}

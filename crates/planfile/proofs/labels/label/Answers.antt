@@ -1,8 +1,8 @@
-use Rattle.std.proofs.Common.{◌≡◌, ◌+◌, ◌-◌, ◌<◌, true, false, length, drop, is_err, Some, None, sym, ap, ◌∙◌, subst, arith, rules, MatchOption}
+use Rattle.std.proofs.Common.{◌≡◌, ◌+◌, ◌-◌, ◌<◌, length, drop, is_err, Some, None, sym, ap, ◌∙◌, subst, arith, rules, MatchOption}
 use Rattle.std.specs.Option.{option_map}
 use Rattle.std.specs.List.{slice_get}
 use Rattle.std.proofs.lemmas.List.{length-drop, take_all}
-use Rattle.planfile.specs.Files.{answer_to, of_kind, outcome}
+use Rattle.planfile.specs.Files.{of_kind, outcome}
 use Rattle.planfile.specs.Labels.{label_of}
 use Rattle.planfile.proofs.Naming.{behind_time, none_refused, label_found, long_enough, label_law, refusing, accepting}
 use Rattle.planfile.proofs.labels.label.Goals as goal

@@ -1,4 +1,4 @@
-use Rattle.std.proofs.Common.{◌≡◌, Some, sym, refl, ap, ◌∙◌, subst, rules}
+use Rattle.std.proofs.Common.{Some, sym, ap, ◌∙◌, subst}
 use Rattle.graph.specs.Drafts.{PlanOf, content}
 use Rattle.std.specs.List.{slice_get}
 use Rattle.planfile.specs.Files.{of_kind}

@@ -1,4 +1,4 @@
-use Rattle.std.proofs.Common.{◌≡◌, length, Err, sym, refl, ap, ◌∙◌, rules}
+use Rattle.std.proofs.Common.{◌≡◌, length, Err, rules}
 use Rattle.planfile.proofs.Outcomes.{bad_outcome, bad_file}
 use Rattle.planfile.proofs.Concluding.{refused_whole}
 use Rattle.planfile.proofs.reading.read_whole.Goals as goal

@@ -1,4 +1,4 @@
-use Rattle.std.proofs.Common.{◌≡◌, ◌+◌, ◌<◌, ◌⊎◌, get_or, drop, sym, ◌∙◌, inl, inr, rules}
+use Rattle.std.proofs.Common.{◌+◌, ◌<◌, ◌⊎◌, get_or, drop, sym, ◌∙◌, inl, inr, rules}
 use Rattle.std.proofs.lemmas.List.{at_drop_more, at_drop_all}
 use Rattle.planfile.specs.Rules.{printable}
 use Rattle.planfile.proofs.Printable.{printed_first, not_printed_first}

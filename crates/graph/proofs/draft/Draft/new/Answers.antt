@@ -1,4 +1,4 @@
-use Rattle.std.proofs.Common.{◌≡◌, ℕ, sym, refl, ap, ◌∙◌, arith}
+use Rattle.std.proofs.Common.{sym, refl, ap, ◌∙◌, arith}
 use Rattle.graph.specs.Edges.{edges_in}
 use Rattle.graph.specs.Graphs.{set_before}
 use Rattle.graph.specs.Sets.{has, none}

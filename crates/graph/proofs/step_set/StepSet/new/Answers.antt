@@ -1,5 +1,4 @@
 use Rattle.std.proofs.Common.{refl}
-use Rattle.graph.specs.Sets.{none}
 use Rattle.graph.specs.SetLaws.{has_none}
 use Rattle.graph.proofs.step_set.StepSet.new.Goals as goal
 

@@ -1,4 +1,4 @@
-use Rattle.std.proofs.Common.{◌≡◌, ◌+◌, true, length, take, set, sym, refl, ap, ◌∙◌, arith, rules}
+use Rattle.std.proofs.Common.{◌≡◌, true, length, take, sym, refl, ap, ◌∙◌, arith, rules}
 use Rattle.graph.specs.Drafts.{content}
 use Rattle.std.proofs.lemmas.List.{length-take-le, take_all, take_more_set, length-set}
 use Rattle.std.proofs.lemmas.Bool.{both_ways, cond-true, cond-false, le-leb, lt-leb, not_from_true}
