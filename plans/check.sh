@@ -1,7 +1,7 @@
 #!/usr/bin/env bash
 # Runs a program on each sample plan and compares what it prints with what is expected.
 #
-#     bash plans/check.sh [PROGRAM]        PROGRAM is target/bin/certify of this repository where none is given
+#     bash plans/check.sh [PROGRAM]        PROGRAM is crates/certify/out/certify of this repository where none is given
 #
 # A line for each plan that differs, in which | stands for a line feed; then the numbers of plans and of differences.
 # Exit status: 0 none differs, 1 some differ, 2 there is nothing to run.
@@ -9,7 +9,7 @@ set -u
 export LC_ALL=C
 
 folder=$(cd "$(dirname "${BASH_SOURCE[0]}")" && pwd) || exit 2
-program=${1:-$folder/../target/bin/certify}
+program=${1:-$folder/../crates/certify/out/certify}
 if ! command -v "$program" >/dev/null; then
     echo "check.sh: cannot run $program" >&2
     exit 2
