@@ -1,5 +1,5 @@
 -- The edges of a draft in the order in which they were added, beside the predecessors that they make.
-use Rattle.std.specs.Prelude.{◌≡◌, ℕ, ◌<◌, true, false, List, length, get_or, sum_by, slice_index_or}
+use Rattle.std.specs.Prelude.{◌≡◌, ℕ, ◌<◌, true, false, List, length, sum_by, slice_index_or}
 use Rattle.graph.specs.Graphs.{set_before}
 use Rattle.graph.specs.Sets.{has, members}
 use Rattle.graph.specs.declared.edge.Edge.{Edge}
@@ -16,7 +16,7 @@ edges_in predecessors = sum_by (λ set. length (members set)) predecessors
 -- Each edge that was added is one of the graph.
 abbrev pub EachInGraph : List StepSet → List Edge → ℕ → Type 0
 EachInGraph predecessors edges added =
-    (i : ℕ) → i < added → has (set_before predecessors (get_or edges i no_edge).to) (get_or edges i no_edge).from ≡ true
+    (i : ℕ) → i < added → has (set_before predecessors (slice_index_or edges i no_edge).to) (slice_index_or edges i no_edge).from ≡ true
 
 -- The graph has no edge that was not added.
 abbrev pub NoOther : List StepSet → List Edge → ℕ → Type 0

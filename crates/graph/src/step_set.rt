@@ -1,5 +1,5 @@
 // A set of step numbers below 64.
-ghost use Rattle.std.specs.Prelude.{◌≡◌, ℕ, ◌^◌, ◌<◌, ◌≤◌, true, false, not, ◌&&◌, ◌||◌, ltb, length, if◌then◌else◌, Decides, MatchOption, ◌==◌, nat_lt};
+ghost use Rattle.std.specs.Prelude.{◌≡◌, ℕ, ◌^◌, ◌<◌, ◌≤◌, true, false, not, ◌&&◌, ◌||◌, length, if◌then◌else◌, Decides, MatchOption, ◌==◌, nat_lt};
 ghost use Rattle.graph.specs.Paths.{Among, Distinct};
 ghost use Rattle.graph.specs.Sets.{has, none, with_step, without_step, both, members, Least};
 
@@ -14,7 +14,7 @@ const STEPS: u8 = 64;
 
 // The bit of a step: none from 64 on, so that such a number is never in a set.
 fn bit(step: u8) -> u64
-    ensures { result ≡ (if ltb step 64 then 2 ^ step else 0) }
+    ensures { result ≡ (if nat_lt step 64 then 2 ^ step else 0) }
 {
     if step < STEPS { 1 << step } else { 0 }
 }
