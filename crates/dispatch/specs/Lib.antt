@@ -1,4 +1,3 @@
 pub mod Picks
 pub mod Right
 pub mod Rising
-pub mod RoundPolicyLemmas

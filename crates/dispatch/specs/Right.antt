@@ -11,6 +11,7 @@ use Rattle.graph.specs.Sets.{has, members, Least}
 use Rattle.graph.specs.declared.step_set.StepSet.{StepSet}
 use Rattle.graph.proofs.Members.{members_has, has_members}
 use Rattle.dispatch.specs.Picks.{first_or, lowest, rank_of, top, highest, in_turn, next_after, last_after, Highest, LeastAbove, NoneAbove, NextAfter, Picks}
+use Rattle.dispatch.specs.declared.round.Round.{Round}
 use Rattle.dispatch.specs.Rising.{rising_kept, kept_passes, kept_inside, passes_kept, rising_members, first_in, first_least, first_append, first_same, empty_or_not, no_elements}
 
 -- what is not in a set is in no list of it
@@ -42,6 +43,9 @@ module _ (ready : StepSet) (none : (n : ℕ) → n < 64 → has ready n ≡ fals
 
   pub last_empty : (last : ℕ) → last_after last ready ≡ last
   last_empty last = ap (first_or last) (turn_empty last)
+
+  pub round_stays : (round : Round) → let after : Round = record { last = last_after round.last ready } in after ≡ round
+  round_stays round = λ i. record { last = last_empty round.last i }
 
 -- The greatest rank bounds each, and some step has it.
 module _ (ranks : List ℕ) where

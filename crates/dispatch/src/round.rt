@@ -1,7 +1,6 @@
 ghost use Rattle.std.specs.Prelude.{◌≡◌, ◌<◌, MatchOption};
 ghost use Rattle.dispatch.specs.Picks.{next_after, last_after, LeastAbove, NoneAbove, NextAfter, Picks};
-ghost use Rattle.dispatch.specs.Right.{next_inside, next_empty};
-ghost use Rattle.dispatch.specs.RoundPolicyLemmas.{round_stays};
+ghost use Rattle.dispatch.specs.Right.{next_inside, next_empty, round_stays};
 
 use crate::policy::{NO_STEP, Policy};
 use graph::StepSet;
@@ -48,7 +47,7 @@ impl Policy for Round {
 
     ghost inside = { λ policy ready n within inside. next_inside ready n within inside policy.last };
 
-    ghost empty = { λ policy ready none. (next_empty ready none policy.last, round_stays policy ready none) };
+    ghost empty = { λ policy ready none. (next_empty ready none policy.last, round_stays ready none policy) };
 
     fn pick(&mut self, ready: StepSet) -> u8
         ensures step { result ≡ next_after self.old.last ready }

@@ -1,10 +1,7 @@
--- Proofs that the length keeps the laws of a measure, which it hands on beside its meaning.
+-- Proofs of laws that the length keeps as a measure, which it hands on beside its meaning.
 use Rattle.std.specs.Prelude.{◌≡◌, ℕ, max}
 use Rattle.std.proofs.Common.{arith}
 use Rattle.graph.specs.Measures.{lengthened}
-
-pub max_commutes : (a b : ℕ) → max a b ≡ max b a
-max_commutes a b = omega arith
 
 pub max_groups : (a b c : ℕ) → max (max a b) c ≡ max a (max b c)
 max_groups a b c = omega arith

@@ -1,5 +1,6 @@
 ghost use Rattle.std.specs.Prelude.{max};
-ghost use Rattle.graph.specs.LengthLaws.{lengthened_spreads, max_commutes, max_groups};
+ghost use Rattle.std.proofs.Math.Nat.{max_comm};
+ghost use Rattle.graph.specs.LengthLaws.{lengthened_spreads, max_groups};
 ghost use Rattle.graph.specs.Measures.{lengthened};
 
 use crate::measure::Measure;
@@ -17,7 +18,7 @@ impl Measure for Length {
 
     ghost carry = { λ _. lengthened };
 
-    ghost commutes = { λ _ a b. max_commutes a b };
+    ghost commutes = { λ _ a b. max_comm a b };
 
     ghost groups = { λ _ a b c. max_groups a b c };
 
