@@ -1,0 +1,5 @@
+use Rattle.std.proofs.Math.Seq.{take-set-lt}
+use Rattle.fixed.proofs.list.FixedList.set.Goals as goal
+
+pub returns-then-place-self : goal.returns-then-place-self
+returns-then-place-self g c = rw (← c.self.view_is) (take-set-lt c.self.inside.len c.self.inside.places c.args.place c.args.value c.if-place-self.true)

@@ -1,0 +1,107 @@
+ghost use Rattle.std.specs.Prelude.{◌≡◌, ◌<◌, ◌≤◌, ◌↔◌, ⊤, [], ◌∷◌, ◌++◌, length, ◌==◌, slice_set, IsOk, OnOk, OnErr};
+ghost use Rattle.fixed.specs.Filled.{filled};
+
+use crate::blank::Blank;
+use std::alloc::AllocError;
+use std::marker::Model;
+
+// There was no place left.
+#[derive(Clone, Copy, PartialEq, Eq, Debug)]
+pub struct Full;
+
+// At most `N` values in order, which lie in the list itself; the other places are blank.
+pub struct FixedList<T: Blank, const N: usize> {
+    places: [T; N],
+    len: usize,
+}
+
+// A list is seen as its values.
+impl<T: Blank, const N: usize> Model for FixedList<T, N> {
+    ghost use Rattle.std.specs.Prelude.{List, length, take, refl};
+    ghost use Rattle.fixed.specs.Filled.{filled, IsFilled};
+    ghost use Rattle.fixed.specs.FilledLaws.{length-values, filled-values};
+
+    ghost Value = { List T };
+
+    ghost view = { λ list. take list.len list.places };
+
+    ghost invariant = { λ list. IsFilled N T.Blank.blank list.len list.places };
+
+    ghost inverse = { λ values. record { places = filled N T.Blank.blank values; len = length values } };
+
+    ghost inverse_ok = { λ list held. rw (filled-values N T.Blank.blank list.len list.places held, length-values N T.Blank.blank list.len list.places held) refl };
+}
+
+impl<T: Blank, const N: usize> Clone for FixedList<T, N> {
+    ghost is_clone = { λ list copy. copy ≡ list };
+
+    ghost is_infallible = { λ _. ⊤ };
+
+    fn clone(&self) -> Result<FixedList<T, N>, AllocError> {
+        Ok(*self)
+    }
+}
+
+impl<T: Blank, const N: usize> Copy for FixedList<T, N> {}
+
+impl<T: Blank, const N: usize> FixedList<T, N> {
+    pub fn new() -> FixedList<T, N>
+        ensures { result ≡ [] }
+    {
+        FixedList {
+            places: [T::blank(); N],
+            len: 0,
+        }
+    }
+
+    pub fn len(&self) -> usize
+        ensures value { result ≡ length self.now }
+        ensures few { length self.now ≤ N }
+    {
+        self.as_slice().len()
+    }
+
+    pub fn is_empty(&self) -> bool
+        ensures { result ≡ (length self.now == 0) }
+    {
+        self.as_slice().is_empty()
+    }
+
+    // The values.
+    pub fn as_slice(&self) -> &[T]
+        ensures values { result.now ≡ self.now }
+        ensures few { length self.now ≤ N }
+    {
+        &self.places[..self.len]
+    }
+
+    // All places: the values, then blanks.
+    pub fn places(&self) -> &[T; N]
+        ensures { result.now ≡ filled N T.Blank.blank self.now }
+    {
+        &self.places
+    }
+
+    // Adds a value at the end, or refuses it where the list is full.
+    pub fn push(&mut self, value: T) -> Result<(), Full>
+        ensures room { IsOk result ↔ (length self.old < N) }
+        ensures ok { OnOk result (self.new ≡ self.old ++ value ∷ []) }
+        ensures err { OnErr result (self.new ≡ self.old) }
+    {
+        if self.len == N {
+            return Err(Full);
+        }
+        self.places[self.len] = value;
+        self.len += 1;
+        Ok(())
+    }
+
+    // Puts another value in the place of one; where the list has no such place, nothing changes.
+    pub fn set(&mut self, place: usize, value: T)
+        ensures { self.new ≡ slice_set self.old place value }
+    {
+        if place < self.len {
+            self.places[place] = value;
+        }
+    }
+}
