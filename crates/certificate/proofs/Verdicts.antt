@@ -1,9 +1,9 @@
 -- What the least yield decides.
-use Rattle.std.proofs.Common.{◌≡◌, ℕ, zero, suc, ◌+◌, ◌-◌, ◌<◌, ◌≤◌, leb, Some, sym, ap, ◌∙◌, ap₂, arith}
+use Rattle.std.proofs.Common.{◌≡◌, ℕ, zero, suc, ◌+◌, ◌<◌, ◌≤◌, leb, List, Some, None, MatchOption, Option, slice_index, sym, refl, ap, ◌∙◌, ⊎_elim, arith}
 use mathlib.Core.Path.{fun_ext}
-use Rattle.std.proofs.lemmas.Bool.{le-leb, lt-leb, cond-true, cond-false}
+use Rattle.std.proofs.lemmas.Bool.{cases_eq, cases_lt, le-leb, lt-leb, cond-true, cond-false}
 use Rattle.certificate.specs.Allowance.{allowance}
-use Rattle.certificate.specs.Marking.{ticks, offered, least, least_yield, LeastYield, Passes, Fails, first_enough, Smallest}
+use Rattle.certificate.specs.Marking.{ticks, offered, least, least_yield, LeastYield, Passes, Fails, first_enough, least_ceiling, Smallest, LeastCeiling}
 use Rattle.certificate.proofs.Heights.{reaching, stacked}
 use Rattle.certificate.specs.declared.marking_test.MarkingTest.{MarkingTest}
 use Rattle.certificate.proofs.Choosing.{least_bounds, least_reached}
@@ -43,7 +43,7 @@ module _ (width : ℕ → ℕ) (test : MarkingTest) where
         let worst = least_reached (offered width ceiling) (allowance test.length) test.first (ticks test) in
         (worst.0, worst.1, omega (arith, worst.2, less))
 
-  pub smallest_from : (work ceiling : ℕ) → 1 ≤ ceiling → ceiling ≤ 64 → work ≤ least_yield width test ceiling → ((lower : ℕ) → 1 ≤ lower → lower < ceiling → least_yield width test lower < work) → Smallest width test work ceiling
+  smallest_from : (work ceiling : ℕ) → 1 ≤ ceiling → ceiling ≤ 64 → work ≤ least_yield width test ceiling → ((lower : ℕ) → 1 ≤ lower → lower < ceiling → least_yield width test lower < work) → Smallest width test work ceiling
   smallest_from work ceiling one most enough smaller = record {
     at_least_one = one;
     at_most_64 = most;
@@ -53,16 +53,47 @@ module _ (width : ℕ → ℕ) (test : MarkingTest) where
     zero_fails = λ some. fails_from 0 work (omega (arith, by_levels 0));
   }
 
--- the search for the first ceiling, one further
-module _ (yields : ℕ → ℕ) (work ceiling : ℕ) where
-  pub enough_here : (count : ℕ) → 1 ≤ count → work ≤ yields ceiling → first_enough yields work ceiling count ≡ Some ceiling
-  unfolding first_enough
-  enough_here zero some enough = absurd (omega arith)
-  enough_here (suc count) some enough = cond-true (leb work (yields ceiling)) _ _ (le-leb work (yields ceiling) enough)
+-- what a search finds among the ceilings from one to before another: the first that is enough, or none
+abbrev Finds : (ℕ → ℕ) → ℕ → ℕ → ℕ → Option ℕ → Type 0
+Finds yields work from end found =
+    MatchOption found
+    ((k : ℕ) → from ≤ k → k < end → yields k < work)
+    (λ i. (from ≤ i) × (i < end) × (work ≤ yields i) × ((k : ℕ) → from ≤ k → k < i → yields k < work))
 
-  pub not_enough : (count : ℕ) → 1 ≤ count → yields ceiling < work → first_enough yields work ceiling count ≡ first_enough yields work (ceiling + 1) (count - 1)
+module _ (yields : ℕ → ℕ) (work : ℕ) where
+  not_here : (from count : ℕ) (found : Option ℕ) → yields from < work → Finds yields work from (from + suc count) found → Finds yields work (suc from) (suc from + count) found
+  not_here from count None less none = λ k after under. none k (omega arith) (omega arith)
+  not_here from count (Some i) less some =
+      ⊎_elim
+      (λ same. absurd (omega (arith, some.2, ap yields same)))
+      (λ other. (omega (arith, some.0, other), omega (arith, some.1), some.2, λ k after under. some.3 k (omega arith) under))
+      (cases_eq i from)
+
+  here : (from count : ℕ) (found : Option ℕ) → work ≤ yields from → Finds yields work from (from + suc count) found → found ≡ Some from
+  here from count None enough none = absurd (omega (arith, none from (omega arith) (omega arith)))
+  here from count (Some i) enough some =
+      ap Some (⊎_elim
+      (λ before. absurd (omega (arith, some.3 from (omega arith) before)))
+      (λ not_before. omega (arith, some.0))
+      (cases_lt from i))
+
+  first_is : (from count : ℕ) (found : Option ℕ) → Finds yields work from (from + count) found → found ≡ first_enough yields work from count
   unfolding first_enough
-  not_enough zero some less = absurd (omega arith)
-  not_enough (suc count) some less =
-      cond-false (leb work (yields ceiling)) _ _ (lt-leb work (yields ceiling) less)
-      ∙ ap₂ (first_enough yields work) (omega arith) (omega arith)
+  first_is from zero None none = refl
+  first_is from zero (Some i) some = absurd (omega (arith, some.0, some.1))
+  first_is from (suc count) found is =
+      ⊎_elim
+      (λ less. first_is (suc from) count found (not_here from count found less is) ∙ sym (cond-false (leb work (yields from)) _ _ (lt-leb work (yields from) less)))
+      (λ enough. here from count found enough is ∙ sym (cond-true (leb work (yields from)) _ _ (le-leb work (yields from) enough)))
+      (cases_lt (yields from) work)
+
+-- what a search of a list of the least yields finds is the least ceiling
+module _ (width : ℕ → ℕ) (test : MarkingTest) (yields : List ℕ) (known : (ceiling : ℕ) → ceiling ≤ 64 → slice_index yields ceiling ≡ least_yield width test ceiling) (work : ℕ) where
+  pub found_is_least : (found : Option ℕ) → Finds (slice_index yields) work 1 65 found → (found ≡ least_ceiling width test work) × LeastCeiling width test work found
+  found_is_least None none =
+      let less : (k : ℕ) → 1 ≤ k → k < 65 → least_yield width test k < work = λ k from under. omega (arith, known k (omega arith), none k from under) in
+      (first_is (least_yield width test) work 1 64 None less, fails_from width test 64 work (less 64 (omega arith) (omega arith)))
+  found_is_least (Some ceiling) some =
+      let less : (k : ℕ) → 1 ≤ k → k < ceiling → least_yield width test k < work = λ k from under. omega (arith, known k (omega (arith, some.1)), some.3 k from under) in
+      let enough : work ≤ least_yield width test ceiling = omega (arith, known ceiling (omega (arith, some.1)), some.2) in
+      (first_is (least_yield width test) work 1 64 (Some ceiling) (some.0, some.1, enough, less), smallest_from width test work ceiling some.0 (omega (arith, some.1)) enough less)

@@ -1,6 +1,11 @@
--- The number of a certificate's refusal.
+-- A certificate's refusal, and its number.
 use Rattle.std.specs.Prelude.{ℕ, Bool, cond, Some, None, Option}
+use Rattle.certificate.specs.declared.certificate.NotCertified.{NotCertified}
 
--- A plan that is not certified is refused by 11; nothing is returned with it.
-abbrev pub refusal_of : Bool → Option ℕ
-refusal_of certified = cond certified None (Some 11)
+-- The refusal's number is 11.
+abbrev pub number_of : NotCertified → ℕ
+number_of refusal = 11
+
+-- A plan that is not certified is refused; nothing is returned with the refusal.
+abbrev pub refusal_of : Bool → Option NotCertified
+refusal_of certified = cond certified None (Some (record {}))

@@ -1,7 +1,7 @@
 // Whether a plan is certified on a supply.
 ghost use Rattle.std.specs.Prelude.{◌≡◌, MatchBool};
 ghost use Rattle.graph.specs.Asked.{deadline_of, volume_of, length_of};
-ghost use Rattle.certificate.specs.Refusals.{refusal_of};
+ghost use Rattle.certificate.specs.Refusals.{number_of, refusal_of};
 ghost use Rattle.certificate.specs.Certified.{whole_test, Certified, Uncertified};
 ghost use Rattle.certificate.specs.Marking.{least_yield, LeastYield};
 
@@ -19,12 +19,25 @@ pub struct Certificate {
     pub certified: bool,
 }
 
+// The plan is not certified.
+#[derive(Clone, Copy, PartialEq, Eq, Debug)]
+pub struct NotCertified;
+
+impl NotCertified {
+    // The number of this refusal.
+    pub fn number(self) -> u8
+        ensures { result ≡ number_of self }
+    {
+        11
+    }
+}
+
 impl Certificate {
-    // The number of the refusal, where the plan is not certified.
-    pub fn refusal(&self) -> Option<u8>
+    // The refusal, where the plan is not certified.
+    pub fn refusal(&self) -> Option<NotCertified>
         ensures { result ≡ refusal_of self.now.certified }
     {
-        if self.certified { None } else { Some(11) }
+        (!self.certified).then_some(NotCertified)
     }
 }
 

@@ -5,12 +5,10 @@ ghost use Rattle.certificate.specs.Widths.{exactly};
 ghost use Rattle.certificate.specs.Marking.{least_yield, ticks};
 
 use crate::marking_test::MarkingTest;
-use cores::Supply;
+use cores::{Supply, WIDEST};
 
 // One place for each width from 0 to the widest.
-const WIDTHS: usize = 65;
-
-const WIDEST: usize = 64;
+const WIDTHS: usize = WIDEST as usize + 1;
 
 // How many ticks a marking may choose, from the length of a path.
 fn marks_allowed(length: u32) -> u32
@@ -44,7 +42,8 @@ pub(crate) fn least_yields<S: Supply>(supply: &S, test: &MarkingTest) -> [u64; W
     let mut sum = u64::from(level);
     let mut yields = [0; WIDTHS];
     yields[1] = sum;
-    for cores in 1..WIDEST {
+    // By index: what is written through an iterator over the yields is not known to the proof.
+    for cores in 1..usize::from(WIDEST) {
         level -= counts[cores];
         sum += u64::from(level.saturating_sub(allowed));
         yields[cores + 1] = sum;

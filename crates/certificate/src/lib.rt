@@ -7,5 +7,5 @@ mod marking_test;
 #[cfg(test)]
 mod tests;
 
-pub use certificate::{Certificate, certify};
+pub use certificate::{Certificate, NotCertified, certify};
 pub use marking_test::MarkingTest;

@@ -37,11 +37,6 @@ impl MarkingTest {
         ensures smallest { LeastCeiling (S.Supply.width supply.now) self.now work result }
     {
         let yields = least_yields(supply, self);
-        for ceiling in 1..=WIDEST {
-            if yields[usize::from(ceiling)] >= work {
-                return Some(ceiling);
-            }
-        }
-        None
+        (1..WIDEST + 1).find(|&ceiling| yields[usize::from(ceiling)] >= work)
     }
 }

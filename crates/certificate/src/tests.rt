@@ -1,6 +1,6 @@
 // The marking test on worked numbers and at its edges.
-use crate::{MarkingTest, certify};
-use cores::{Block, Flat, HoldBack, Ladder};
+use crate::{MarkingTest, NotCertified, certify};
+use cores::{Block, Flat, HoldBack, Ladder, Window};
 use graph::{Draft, Plan, Refusal};
 use std::process::Abort;
 use std::test::Fail;
@@ -122,13 +122,20 @@ fn ticks_without_cores_yield_nothing(rt: HostRuntime) {
         deadline: 6,
         length: 4,
     };
-    let supply = HoldBack::new(Flat::new(2), 2, 2, 4);
+    let supply = HoldBack::new(
+        Flat::new(2),
+        Window {
+            cores: 2,
+            from: 2,
+            until: 4,
+        },
+    );
     assert_eq!(rt; test.least_yield(&supply, 64), 4);
     assert_eq!(rt; test.least_ceiling(&supply, 4), Some(1));
     assert_eq!(rt; test.least_ceiling(&supply, 5), None);
 }
 
-// Six steps of a hide: scan, three searches, nesting, knife path.
+// Six steps of a hide: scan, three searches, nesting, knife path. The tests of `graph` build it too, but tests of another crate can't be called.
 fn hide() -> Result<Plan, Refusal> {
     let mut draft = Draft::new();
     draft.set_deadline(10)?;
@@ -156,7 +163,7 @@ fn plans_are_certified(rt: HostRuntime) -> Result<(), Fail> {
     let nine = certify(&plan, &Ladder::new(&shorter));
     assert_eq!(rt; nine.least, 11);
     assert!(rt; !nine.certified);
-    assert_eq!(rt; nine.refusal(), Some(11));
+    assert_eq!(rt; nine.refusal().map(NotCertified::number), Some(11));
     let empty = certify(&Plan::empty(), &Flat::new(64));
     assert_eq!(rt; empty.least, 0);
     assert!(rt; !empty.certified);

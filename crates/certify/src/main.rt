@@ -1,13 +1,14 @@
 // Certifies the plan file on standard input and prints the certificate, or why there is none.
 #![tactic(auto)]
 
-ghost use Rattle.std.specs.Prelude.{◌≡◌, ◌≤◌, length, IfOk};
+ghost use Rattle.std.specs.Prelude.{◌≡◌, ◌≤◌, length, take, IfOk, IfSome};
 ghost use Rattle.firmware.specs.Certificates.{file_certificate};
-ghost use Rattle.firmware.specs.Text.{content, laid_out, text_of};
+ghost use Rattle.firmware.specs.Text.{bytes_of, laid_out, text_of};
 
 use certificate::Certificate;
 use firmware::{Text, certify_file, lay_out};
 use planfile::Fault;
+use std::alloc::Global;
 use std::io::Read;
 use std::{env, io};
 
@@ -30,33 +31,29 @@ Reads a plan file from standard input, the first 65,536 bytes of it, and prints 
 A file that cannot be read as a plan is answered by one line, 'refused N at P':
 the number of the cause and the byte of the file. The status is 0 in all these cases.";
 
-// Reads up to the end of the input or of the memory, and answers how many bytes came.
-fn read_input(input: &mut impl Read, memory: &mut [u8]) -> io::Result<usize>
-    ensures { IfOk result (λ filled. filled ≤ length memory.old) }
+// Reads the input up to its end or to the most bytes.
+fn read_input<R: Read>(alloc: Global, input: &mut R) -> io::Result<Vec<u8>>
+    ensures few { IfOk result (λ file. length file.items ≤ 65536) }
+    ensures first { IfOk result (λ file. IfSome (R.Read.remaining input.old) (λ bytes. file.items ≡ take 65536 bytes)) }
 {
-    let mut filled = 0;
-    while filled < memory.len() {
-        let count = input.read(&mut memory[filled..])?;
-        if count == 0 {
-            break;
-        }
-        filled += count;
-    }
-    Ok(filled)
+    let mut file = Vec::new(alloc);
+    input.take(MOST_BYTES as u64).read_to_end(&mut file)?;
+    // No more came, though `take` promises that only of a reader whose bytes are known.
+    file.truncate(MOST_BYTES);
+    Ok(file)
 }
 
 // The certificate of a file; what its reader refuses goes on unchanged.
 fn certificate(file: &[u8]) -> Result<Certificate, Fault>
     ensures { result ≡ file_certificate file.now }
 {
-    let certificate = certify_file(file)?;
-    Ok(certificate)
+    Ok(certify_file(file)?)
 }
 
 // What is printed for a file.
 fn answer(file: &[u8]) -> Text
-    ensures bytes { result.bytes ≡ laid_out (file_certificate file.now) }
-    ensures content { content result ≡ text_of (file_certificate file.now) }
+    ensures bytes { bytes_of result ≡ laid_out (file_certificate file.now) }
+    ensures content { result ≡ text_of (file_certificate file.now) }
 {
     lay_out(certificate(file))
 }
@@ -65,7 +62,6 @@ fn main(rt: HostRuntime) -> io::Result<()> {
     if env::args(&rt)?.count() > 1 {
         return println!(rt; "{USAGE}");
     }
-    let mut memory = vec![in rt.alloc(); 0u8; MOST_BYTES]?;
-    let filled = read_input(&mut rt.stdin(), &mut memory)?;
-    rt.write_all(answer(&memory[..filled]).filled())
+    let file = read_input(rt.alloc(), &mut rt.stdin())?;
+    rt.write_all(answer(&file).filled())
 }

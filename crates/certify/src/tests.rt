@@ -1,5 +1,6 @@
 // What is read of an input.
 use crate::{MOST_BYTES, read_input};
+use std::alloc::Global;
 use std::io;
 use std::io::Read;
 use std::process::Abort;
@@ -36,44 +37,50 @@ impl Read for Pieces {
 }
 
 // So many bytes come of an input of this size, in order.
-fn read_of(rt: &impl Abort, size: usize, piece: usize, wanted: usize) {
-    let mut memory = [0; MOST_BYTES];
+fn read_of(
+    rt: &impl Abort,
+    alloc: Global,
+    size: usize,
+    piece: usize,
+    wanted: usize,
+) -> io::Result<()> {
     let mut input = Pieces {
         left: size,
         next: 0,
         piece,
         fails: false,
     };
-    assert_eq!(rt; read_input(&mut input, &mut memory).ok(), Some(wanted));
+    let file = read_input(alloc, &mut input)?;
+    assert_eq!(rt; file.len(), wanted);
     let mut next = 0;
-    for i in 0..wanted {
+    for byte in file {
         next = after(next);
-        assert_eq!(rt; memory[i], next);
+        assert_eq!(rt; byte, next);
     }
+    Ok(())
 }
 
 #[test]
-fn whole_inputs(rt: HostRuntime) {
-    read_of(&rt, 0, 7, 0);
-    read_of(&rt, 5, 1, 5);
-    read_of(&rt, 5, 7, 5);
-    read_of(&rt, MOST_BYTES, 1000, MOST_BYTES);
+fn whole_inputs(rt: HostRuntime) -> io::Result<()> {
+    read_of(&rt, rt.alloc(), 0, 7, 0)?;
+    read_of(&rt, rt.alloc(), 5, 1, 5)?;
+    read_of(&rt, rt.alloc(), 5, 7, 5)?;
+    read_of(&rt, rt.alloc(), MOST_BYTES, 1000, MOST_BYTES)
 }
 
 #[test]
-fn a_longer_input_is_cut(rt: HostRuntime) {
-    read_of(&rt, MOST_BYTES + 1, 1000, MOST_BYTES);
-    read_of(&rt, MOST_BYTES + 1, MOST_BYTES + 1, MOST_BYTES);
+fn a_longer_input_is_cut(rt: HostRuntime) -> io::Result<()> {
+    read_of(&rt, rt.alloc(), MOST_BYTES + 1, 1000, MOST_BYTES)?;
+    read_of(&rt, rt.alloc(), MOST_BYTES + 1, MOST_BYTES + 1, MOST_BYTES)
 }
 
 #[test]
 fn a_failing_input(rt: HostRuntime) {
-    let mut memory = [0; 8];
     let mut input = Pieces {
         left: 3,
         next: 0,
         piece: 2,
         fails: true,
     };
-    assert!(rt; read_input(&mut input, &mut memory).is_err());
+    assert!(rt; read_input(rt.alloc(), &mut input).is_err());
 }

@@ -1,3 +1,4 @@
+pub mod Windows
 pub mod Widths
 pub mod Ladders
 pub mod Narrow

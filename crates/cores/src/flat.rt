@@ -5,7 +5,7 @@ ghost use Rattle.cores.specs.Widths.{capped};
 use crate::supply::{Supply, WIDEST};
 
 // The same width at every tick: `cores`, or 64 where that is more.
-#[derive(Clone, Copy)]
+#[derive(Clone, Copy, PartialEq, Eq, Debug)]
 pub struct Flat {
     cores: u8,
 }

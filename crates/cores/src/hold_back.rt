@@ -3,29 +3,21 @@ ghost use Rattle.cores.specs.Narrow.{held_narrow};
 ghost use Rattle.cores.specs.Widths.{held};
 
 use crate::supply::Supply;
+use crate::window::Window;
 
-// The supply below, less `cores` of its cores from tick `from` until before tick `until`.
+// The supply below, less the cores of a window in each of its ticks.
 #[derive(Drop)]
 pub struct HoldBack<S> {
     below: S,
-    cores: u8,
-    from: u32,
-    until: u32,
+    window: Window,
 }
 
 impl<S> HoldBack<S> {
-    pub fn new(below: S, cores: u8, from: u32, until: u32) -> HoldBack<S>
+    pub fn new(below: S, window: Window) -> HoldBack<S>
         ensures below { result.below ≡ below }
-        ensures cores { result.cores ≡ cores }
-        ensures from { result.from ≡ from }
-        ensures until { result.until ≡ until }
+        ensures window { result.window ≡ window }
     {
-        HoldBack {
-            below,
-            cores,
-            from,
-            until,
-        }
+        HoldBack { below, window }
     }
 
     pub fn below(&self) -> &S
@@ -34,34 +26,22 @@ impl<S> HoldBack<S> {
         &self.below
     }
 
-    pub fn cores(&self) -> u8
-        ensures { result ≡ self.now.cores }
+    pub fn window(&self) -> Window
+        ensures { result ≡ self.now.window }
     {
-        self.cores
-    }
-
-    pub fn from(&self) -> u32
-        ensures { result ≡ self.now.from }
-    {
-        self.from
-    }
-
-    pub fn until(&self) -> u32
-        ensures { result ≡ self.now.until }
-    {
-        self.until
+        self.window
     }
 }
 
 impl<S: Supply> Supply for HoldBack<S> {
-    ghost width = { λ layer tick. held (S.Supply.width layer.below) layer.cores layer.from layer.until tick };
+    ghost width = { λ layer tick. held (S.Supply.width layer.below) layer.window tick };
 
-    ghost narrow = { λ layer tick. held_narrow (S.Supply.width layer.below) (S.Supply.narrow layer.below) layer.cores layer.from layer.until tick };
+    ghost narrow = { λ layer tick. held_narrow (S.Supply.width layer.below) (S.Supply.narrow layer.below) layer.window tick };
 
     fn width_at(&self, tick: u32) -> u8 {
         let width = self.below.width_at(tick);
-        if self.from <= tick && tick < self.until {
-            width.saturating_sub(self.cores)
+        if self.window.contains(tick) {
+            width.saturating_sub(self.window.cores)
         } else {
             width
         }

@@ -5,7 +5,7 @@ ghost use Rattle.cores.specs.Narrow.{ladder_narrow};
 use crate::supply::{Supply, WIDEST};
 
 // So many cores for so many ticks.
-#[derive(Clone, Copy)]
+#[derive(Clone, Copy, PartialEq, Eq, Debug, Default)]
 pub struct Block {
     pub cores: u8,
     pub ticks: u16,

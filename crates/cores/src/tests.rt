@@ -1,7 +1,11 @@
 // Supplies at their edges.
-use crate::{Block, Flat, HoldBack, Ladder, Late, Supply};
+use crate::{Block, Flat, HoldBack, Ladder, Late, Supply, Window};
 
 const LAST: u32 = u32::MAX;
+
+fn hold_back<S>(below: S, cores: u8, from: u32, until: u32) -> HoldBack<S> {
+    HoldBack::new(below, Window { cores, from, until })
+}
 
 #[test]
 fn flat_widths(rt: HostRuntime) {
@@ -51,21 +55,18 @@ fn ladder_of_300_blocks(rt: HostRuntime) {
 
 #[test]
 fn hold_back_windows(rt: HostRuntime) {
-    let held = HoldBack::new(Flat::new(5), 3, 10, 12);
+    let held = hold_back(Flat::new(5), 3, 10, 12);
     assert_eq!(rt; held.width_at(9), 5);
     assert_eq!(rt; held.width_at(10), 2);
     assert_eq!(rt; held.width_at(11), 2);
     assert_eq!(rt; held.width_at(12), 5);
-    let all = HoldBack::new(Flat::new(5), 6, LAST - 1, LAST);
+    let all = hold_back(Flat::new(5), 6, LAST - 1, LAST);
     assert_eq!(rt; all.width_at(LAST - 2), 5);
     assert_eq!(rt; all.width_at(LAST - 1), 0);
     assert_eq!(rt; all.width_at(LAST), 5);
-    assert_eq!(rt;
-        HoldBack::new(Flat::new(5), 5, LAST, LAST).width_at(LAST),
-        5
-    );
-    assert_eq!(rt; HoldBack::new(Flat::new(5), 5, 7, 7).width_at(7), 5);
-    assert_eq!(rt; HoldBack::new(Flat::new(5), 5, 8, 7).width_at(7), 5);
+    assert_eq!(rt; hold_back(Flat::new(5), 5, LAST, LAST).width_at(LAST), 5);
+    assert_eq!(rt; hold_back(Flat::new(5), 5, 7, 7).width_at(7), 5);
+    assert_eq!(rt; hold_back(Flat::new(5), 5, 8, 7).width_at(7), 5);
 }
 
 #[test]
@@ -90,8 +91,8 @@ fn layers_in_both_orders(rt: HostRuntime) {
         ticks: 10,
     }];
     // A late start moves the windows below it, and not those above it.
-    let over = HoldBack::new(
-        Late::new(HoldBack::new(Ladder::new(&blocks), 1, 5, 6), 2),
+    let over = hold_back(
+        Late::new(hold_back(Ladder::new(&blocks), 1, 5, 6), 2),
         2,
         3,
         4,
@@ -99,23 +100,20 @@ fn layers_in_both_orders(rt: HostRuntime) {
     assert_eq!(rt; over.width_at(2), 4);
     assert_eq!(rt; over.width_at(3), 1);
     assert_eq!(rt; over.width_at(4), 4);
-    let under = Late::new(
-        HoldBack::new(Late::new(Ladder::new(&blocks), 1), 3, 5, 6),
-        2,
-    );
+    let under = Late::new(hold_back(Late::new(Ladder::new(&blocks), 1), 3, 5, 6), 2);
     assert_eq!(rt; under.width_at(2), 4);
     assert_eq!(rt; under.width_at(3), 1);
     assert_eq!(rt; under.width_at(4), 4);
     assert_eq!(rt; under.width_at(7), 0);
-    let held_first = Late::new(HoldBack::new(Ladder::new(&blocks), 3, 5, 6), 2);
-    let late_first = HoldBack::new(Late::new(Ladder::new(&blocks), 2), 3, 5, 6);
+    let held_first = Late::new(hold_back(Ladder::new(&blocks), 3, 5, 6), 2);
+    let late_first = hold_back(Late::new(Ladder::new(&blocks), 2), 3, 5, 6);
     assert_eq!(rt; held_first.width_at(3), 1);
     assert_eq!(rt; held_first.width_at(5), 4);
     assert_eq!(rt; late_first.width_at(3), 4);
     assert_eq!(rt; late_first.width_at(5), 1);
     assert_eq!(rt; under.by(), 2);
-    assert_eq!(rt; under.below().from(), 5);
-    assert_eq!(rt; under.below().until(), 6);
-    assert_eq!(rt; under.below().cores(), 3);
+    assert_eq!(rt; under.below().window().from, 5);
+    assert_eq!(rt; under.below().window().until, 6);
+    assert_eq!(rt; under.below().window().cores, 3);
     assert_eq!(rt; under.below().below().below().blocks().len(), 1);
 }

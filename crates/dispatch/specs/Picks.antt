@@ -1,5 +1,7 @@
 -- The step that each policy picks of a set, and what makes it that step. 64 is no step.
-use Rattle.std.specs.Prelude.{◌≡◌, ℕ, ◌<◌, ◌≤◌, max, true, false, ◌⊎◌, List, [], ◌∷◌, ◌++◌, filter, nat_le, nat_lt, slice_index}
+use Rattle.std.specs.Prelude.{◌≡◌, ℕ, ◌<◌, ◌≤◌, max, true, false, ◌⊎◌, List, [], ◌∷◌, ◌++◌, filter, nat_le, nat_lt, slice_index, cond, Some, None, Option}
+use Rattle.std.specs.Option.{option_partial_cmp}
+use Rattle.std.specs.Ordering.{nat_cmp, partial_gt}
 use Rattle.graph.specs.Sets.{has, members, Least}
 use Rattle.graph.specs.declared.step_set.StepSet.{StepSet}
 
@@ -15,6 +17,14 @@ lowest ready = first_or 64 (members ready)
 -- The rank of a step.
 abbrev pub rank_of : List ℕ → ℕ → ℕ
 rank_of ranks step = slice_index ranks step
+
+-- Its rank, if it is a step.
+abbrev pub rank_at : List ℕ → ℕ → Option ℕ
+rank_at ranks step = cond (nat_lt step 64) (Some (rank_of ranks step)) None
+
+-- The better of two steps: the second only where it has the greater rank. A number that is no step has no rank, which is below every rank.
+abbrev pub better : List ℕ → ℕ → ℕ → ℕ
+better ranks best step = cond (partial_gt (option_partial_cmp (λ x y. Some (nat_cmp x y))) (rank_at ranks step) (rank_at ranks best)) step best
 
 -- The greatest rank of some steps.
 abbrev pub top : List ℕ → List ℕ → ℕ

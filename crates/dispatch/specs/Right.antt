@@ -15,7 +15,7 @@ use Rattle.dispatch.specs.declared.round.Round.{Round}
 use Rattle.dispatch.specs.Rising.{rising_kept, kept_passes, kept_inside, passes_kept, rising_members, first_in, first_least, first_append, first_same, empty_or_not, no_elements}
 
 -- what is not in a set is in no list of it
-lacks_from : (set : StepSet) (n : ℕ) → (has set n ≡ true → ⊥) → has set n ≡ false
+pub lacks_from : (set : StepSet) (n : ℕ) → (has set n ≡ true → ⊥) → has set n ≡ false
 lacks_from set n not_in = ⊎_elim (λ is. absurd (not_in is)) (λ out. out) (cases_Bool (has set n))
 
 -- Of a set with no step, 64 is answered.

@@ -12,11 +12,11 @@ use Rattle.graph.proofs.Members.{members_next}
 use Rattle.dispatch.specs.Picks.{first_or}
 
 -- each number is at least `low` and above the one before it
-pub Rising : ℕ → List ℕ → Type 0
+unfoldable pub Rising : ℕ → List ℕ → Type 0
 Rising low [] = Unit {0}
 Rising low (n ∷ ns) = (low ≤ n) × Rising (n + 1) ns
 
-lower : (low high : ℕ) (ns : List ℕ) → low ≤ high → Rising high ns → Rising low ns
+pub lower : (low high : ℕ) (ns : List ℕ) → low ≤ high → Rising high ns → Rising low ns
 unfolding Rising
 lower low high [] le rising = tt
 lower low high (n ∷ ns) le rising = (omega (arith, rising.0), rising.1)
@@ -75,7 +75,7 @@ pub rising_members : (set : StepSet) → Rising 0 (members set)
 unfolding members
 rising_members set = rising_kept (has set) 0 (range_with_len 0 64) (rising_counting 0 64)
 
-above : (low n : ℕ) (ns : List ℕ) → Rising low ns → Memᴰ n ns → low ≤ n
+pub above : (low n : ℕ) (ns : List ℕ) → Rising low ns → Memᴰ n ns → low ≤ n
 unfolding Rising
 above low n [] rising inside = absurd (Memᴰ.not-nil inside)
 above low n (m ∷ ns) rising inside =

@@ -7,7 +7,7 @@ use crate::policy::{NO_STEP, Policy};
 use graph::StepSet;
 
 // The lowest number first. It has one state for ever.
-#[derive(Clone, Copy)]
+#[derive(Clone, Copy, PartialEq, Eq, Debug)]
 pub struct Lowest;
 
 impl Lowest {

@@ -2,10 +2,10 @@ ghost use Rattle.std.specs.Prelude.{◌≡◌, ℕ, ◌<◌, true, false};
 ghost use Rattle.graph.specs.Sets.{has};
 ghost use Rattle.graph.specs.declared.step_set.StepSet.{StepSet};
 
-use graph::StepSet;
+use graph::{MOST_STEPS, StepSet};
 
-// What a pick of the empty set answers: the number after the last step's.
-pub const NO_STEP: u8 = 64;
+// What a pick of the empty set answers: the number after the last step's, since the project's rule is that 64 is answered and not an `Option`.
+pub const NO_STEP: u8 = MOST_STEPS as u8;
 
 // A dispatch policy: for its present state and any set of steps that is not empty, one step of the set and a next state.
 pub trait Policy {

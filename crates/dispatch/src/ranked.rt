@@ -1,18 +1,20 @@
 ghost use Rattle.std.specs.Prelude.{◌≡◌, if◌then◌else◌, Some, None, nat_lt, refl};
-ghost use Rattle.dispatch.specs.Picks.{rank_of, highest, Highest, Picks};
+ghost use Rattle.std.specs.List.{reduce};
+ghost use Rattle.graph.specs.Sets.{members};
+ghost use Rattle.dispatch.specs.Picks.{rank_of, better, highest, Highest, Picks};
 ghost use Rattle.dispatch.specs.Right.{highest_inside, highest_empty};
 
 use crate::policy::{NO_STEP, Policy};
-use graph::StepSet;
+use graph::{MOST_STEPS, StepSet};
 
 // The greatest rank first, and the lower number on a tie. It has one state for ever.
-#[derive(Clone, Copy)]
+#[derive(Clone, Copy, PartialEq, Eq, Debug)]
 pub struct Ranked {
-    ranks: [u8; 64],
+    ranks: [u8; MOST_STEPS],
 }
 
 impl Ranked {
-    pub fn new(ranks: [u8; 64]) -> Ranked
+    pub fn new(ranks: [u8; MOST_STEPS]) -> Ranked
         ensures { result.ranks ≡ ranks }
     {
         Ranked { ranks }
@@ -22,11 +24,18 @@ impl Ranked {
     pub fn rank(&self, step: u8) -> Option<u8>
         ensures { result ≡ (if nat_lt step 64 then Some (rank_of self.now.ranks step) else None) }
     {
-        if step < NO_STEP {
-            Some(self.ranks[usize::from(step)])
+        self.ranks.get(usize::from(step)).copied()
+    }
+
+    // The first of the steps that have the greatest rank.
+    fn best(&self, ready: StepSet) -> Option<u8>
+        ensures { result ≡ reduce (better self.now.ranks) (members ready) }
+    {
+        ready.into_iter().reduce(|best, step| if self.rank(step) > self.rank(best) {
+            step
         } else {
-            None
-        }
+            best
+        })
     }
 }
 
@@ -44,16 +53,6 @@ impl Policy for Ranked {
         ensures state { self.new ≡ self.old }
         ensures meaning { Picks ready (Highest self.old.ranks ready) (λ _. self.old) self.old result self.new }
     {
-        let Some(mut best) = ready.first() else {
-            return NO_STEP;
-        };
-        let mut rest = ready;
-        while let Some(step) = rest.first() {
-            rest.remove(step);
-            if self.ranks[usize::from(step)] > self.ranks[usize::from(best)] {
-                best = step;
-            }
-        }
-        best
+        self.best(ready).unwrap_or(NO_STEP)
     }
 }

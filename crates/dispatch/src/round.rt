@@ -1,4 +1,5 @@
-ghost use Rattle.std.specs.Prelude.{◌≡◌, ◌<◌, MatchOption};
+ghost use Rattle.std.specs.Prelude.{◌≡◌, ◌<◌, MatchOption, find, nat_lt};
+ghost use Rattle.graph.specs.Sets.{members};
 ghost use Rattle.dispatch.specs.Picks.{next_after, last_after, LeastAbove, NoneAbove, NextAfter, Picks};
 ghost use Rattle.dispatch.specs.Right.{next_inside, next_empty, round_stays};
 
@@ -6,7 +7,7 @@ use crate::policy::{NO_STEP, Policy};
 use graph::StepSet;
 
 // The set's next number after the last pick, going back to the start.
-#[derive(Clone, Copy)]
+#[derive(Clone, Copy, PartialEq, Eq, Debug)]
 pub struct Round {
     last: u8,
 }
@@ -28,16 +29,9 @@ impl Round {
 
 // The least step of the set above `last`.
 fn first_above(ready: StepSet, last: u8) -> Option<u8>
-    ensures { MatchOption result (NoneAbove last ready) (λ step. LeastAbove last ready step × (step < 64)) }
+    ensures { result ≡ find (λ step. nat_lt last step) (members ready) }
 {
-    let mut rest = ready;
-    while let Some(step) = rest.first() {
-        if step > last {
-            return Some(step);
-        }
-        rest.remove(step);
-    }
-    None
+    ready.into_iter().find(|&step| step > last)
 }
 
 impl Policy for Round {

@@ -1,10 +1,11 @@
 -- A file's certificate, by what the file says.
 use Rattle.std.proofs.Common.{◌≡◌, ℕ, ◌-◌, ◌≤◌, Bool, true, false, leb, ◌↔◌, List, length, Ok, Err, MatchBool, Result, unwrap_or, sym, refl, ap, ◌∙◌, subst, ap₂, inl, inr, ⊎_elim, arith}
+use Rattle.std.specs.Option.{option_map}
 use Rattle.std.proofs.lemmas.List.{nil_from_length}
 use Rattle.std.proofs.lemmas.Bool.{both_ways, cases_eq, le-leb, lt-leb, leb-true, leb-false}
 use Rattle.certificate.specs.Certified.{whole_test, Certified, Uncertified}
 use Rattle.certificate.specs.Marking.{least_yield, LeastYield, Passes, Fails}
-use Rattle.certificate.specs.Refusals.{refusal_of}
+use Rattle.certificate.specs.Refusals.{number_of, refusal_of}
 use Rattle.certificate.specs.declared.certificate.Certificate.{Certificate}
 use Rattle.certificate.specs.declared.marking_test.MarkingTest.{MarkingTest}
 use Rattle.cores.specs.declared.ladder.Block.{Block}
@@ -15,8 +16,6 @@ use Rattle.planfile.specs.Files.{Accepted, FileLaw, Refused, Unready, answer_to,
 use Rattle.planfile.specs.Records.{Entry}
 use Rattle.planfile.specs.Rules.{Reading, reading_of}
 use Rattle.planfile.specs.Causes.{cause_number}
-use Rattle.planfile.specs.declared.cause.Cause.{Cause}
-use Rattle.planfile.specs.declared.cause.Cause.TheVariants.{CutShort, UnknownKind, BodyLength, OutOfOrder, NoRoom, OutOfRange, NotRising, EdgeTwice, Incomplete, ImpliedEdge}
 use Rattle.planfile.specs.declared.cause.Fault.{Fault}
 use Rattle.planfile.specs.declared.layers.Layers.{Layers}
 use Rattle.planfile.proofs.Outcomes.{both_answers, same_bad, same_value}
@@ -24,6 +23,7 @@ use Rattle.firmware.specs.Certificates.{CertificateLaw, NumberLaw, OfPlan, numbe
 use Rattle.firmware.specs.Cores.{granted}
 use Rattle.firmware.proofs.Granting.{granted_with_zeros}
 use Rattle.firmware.proofs.PlanMeasures.{count_is, volume_is, length_is}
+use Rattle.firmware.proofs.Sizes.{cause_from}
 
 same_certificate : {v v' l l' d d' y y' : ℕ} {c c' : Bool} → v ≡ v' → l ≡ l' → d ≡ d' → y ≡ y' → c ≡ c'
     → ◌≡◌ {A = Certificate} (record { volume = v; length = l; deadline = d; least = y; certified = c }) (record { volume = v'; length = l'; deadline = d'; least = y'; certified = c' })
@@ -156,18 +156,6 @@ grants entries o list layers tick accepted left same =
 
 -- the law of the one number
 module _ (file : List ℕ) (law : CertificateLaw file) where
-  cause_from : (cause : Cause) → (1 ≤ cause_number cause) × (cause_number cause ≤ 10)
-  cause_from CutShort = (omega arith, omega arith)
-  cause_from UnknownKind = (omega arith, omega arith)
-  cause_from BodyLength = (omega arith, omega arith)
-  cause_from OutOfOrder = (omega arith, omega arith)
-  cause_from NoRoom = (omega arith, omega arith)
-  cause_from OutOfRange = (omega arith, omega arith)
-  cause_from NotRising = (omega arith, omega arith)
-  cause_from EdgeTwice = (omega arith, omega arith)
-  cause_from Incomplete = (omega arith, omega arith)
-  cause_from ImpliedEdge = (omega arith, omega arith)
-
   both_told : {A : Type 0} (entries : List Entry) (bad : Fault) → outcome 64 file ≡ Err bad → Accepted 64 file entries → A
   both_told entries bad is accepted = absurd (both_answers (outcome 64 file) ((law.records.accepted entries).1 accepted) is)
 
@@ -203,8 +191,8 @@ module _ (file : List ℕ) (law : CertificateLaw file) where
           let less = leb-false _ _ told in
           (found.0, found.1, omega (arith, found.2, less))
 
-      verdict : (b : Bool) → (certificate_of (reading_of entries)).certified ≡ b → NumberLaw file (unwrap_or (refusal_of (certificate_of (reading_of entries)).certified) 0)
-      verdict true told = subst (λ b. NumberLaw file (unwrap_or (refusal_of b) 0)) (sym told) (record {
+      verdict : (b : Bool) → (certificate_of (reading_of entries)).certified ≡ b → NumberLaw file (unwrap_or (option_map number_of (refusal_of (certificate_of (reading_of entries)).certified)) 0)
+      verdict true told = subst (λ b. NumberLaw file (unwrap_or (option_map number_of (refusal_of b)) 0)) (sym told) (record {
         certified = (λ none. (entries, here, (law.certified entries is).0 told), λ found. refl);
         uncertified = (
           λ eleven. absurd (omega (arith, eleven)),
@@ -214,7 +202,7 @@ module _ (file : List ℕ) (law : CertificateLaw file) where
         refused = λ n low high. (λ same. absurd (omega (arith, same)), λ found. no_fault found.0 found.1);
         none_else = omega arith;
       })
-      verdict false told = subst (λ b. NumberLaw file (unwrap_or (refusal_of b) 0)) (sym told) (record {
+      verdict false told = subst (λ b. NumberLaw file (unwrap_or (option_map number_of (refusal_of b)) 0)) (sym told) (record {
         certified = (
           λ none. absurd (omega (arith, none)),
           λ found. absurd (both_ways _ told ((law.certified entries is).1

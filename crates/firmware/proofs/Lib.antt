@@ -1,5 +1,4 @@
 pub mod Cutting
-pub mod Gathering
 pub mod Sizes
 pub mod Granting
 pub mod PlanMeasures

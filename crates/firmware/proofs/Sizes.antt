@@ -1,17 +1,15 @@
 -- How long the text of an answer is at most, and that no byte of it is 0.
-use Rattle.std.proofs.Common.{◌≡◌, ℕ, ◌+◌, ◌-◌, ◌^◌, ◌<◌, ◌≤◌, Bool, true, false, List, [], ◌∷◌, ◌++◌, length, take, drop, replicate, codes, decimal, Result, sym, ap, ◌∙◌, arith, length-append, rules}
+use Rattle.std.proofs.Common.{ℕ, ◌+◌, ◌^◌, ◌<◌, ◌≤◌, Bool, true, false, List, [], ◌∷◌, ◌++◌, length, codes, decimal, arith, length-append, rules}
 use Rattle.std.specs.List.{AllByRecursion as All}
 use Rattle.std.proofs.lemmas.Fmt.{length-decimal-le, decimal_by_steps}
 use Rattle.std.proofs.ByRecursion.{All-append}
-use Rattle.std.proofs.lemmas.List.{take_all, take-append-drop, length-take-le}
 use Rattle.certificate.specs.Refusals.{refusal_of}
 use Rattle.certificate.specs.declared.certificate.Certificate.{Certificate}
 use Rattle.planfile.specs.Causes.{cause_number}
 use Rattle.planfile.specs.declared.cause.Cause.{Cause}
 use Rattle.planfile.specs.declared.cause.Cause.TheVariants.{CutShort, UnknownKind, BodyLength, OutOfOrder, NoRoom, OutOfRange, NotRising, EdgeTwice, Incomplete, ImpliedEdge}
 use Rattle.planfile.specs.declared.cause.Fault.{Fault}
-use Rattle.firmware.specs.declared.text.Text.{Text}
-use Rattle.firmware.specs.Text.{content, line, verdict, certificate_text, fault_text, text_of, laid_out}
+use Rattle.firmware.specs.Text.{line, verdict, certificate_text, fault_text}
 
 -- at most so many bytes, and none of them 0
 pub record Clear (most : ℕ) (text : List ℕ) : Type 0 where
@@ -57,37 +55,25 @@ certificate_clear certificate volume long deadline least =
     let four = line_clear (codes "least ") 20 certificate.least least_word (omega arith) (omega arith) (omega arith) in
     wider (omega arith) (joined _ _ (joined _ _ (joined _ _ (joined _ _ one two) three) four) (verdict_clear certificate.certified))
 
-few_causes : (cause : Cause) → cause_number cause < 100
-few_causes CutShort = omega arith
-few_causes UnknownKind = omega arith
-few_causes BodyLength = omega arith
-few_causes OutOfOrder = omega arith
-few_causes NoRoom = omega arith
-few_causes OutOfRange = omega arith
-few_causes NotRising = omega arith
-few_causes EdgeTwice = omega arith
-few_causes Incomplete = omega arith
-few_causes ImpliedEdge = omega arith
+-- the causes are numbered from 1 to 10
+pub cause_from : (cause : Cause) → (1 ≤ cause_number cause) × (cause_number cause ≤ 10)
+cause_from CutShort = search rules
+cause_from UnknownKind = search rules
+cause_from BodyLength = search rules
+cause_from OutOfOrder = search rules
+cause_from NoRoom = search rules
+cause_from OutOfRange = search rules
+cause_from NotRising = search rules
+cause_from EdgeTwice = search rules
+cause_from Incomplete = search rules
+cause_from ImpliedEdge = search rules
 
 pub fault_clear : (fault : Fault) → fault.place < 2 ^ 64 → Clear 128 (fault_text fault)
 unfolding fault_text
 fault_clear fault place =
-    let few = few_causes fault.cause in
+    let few = (cause_from fault.cause).1 in
     let refused_word : Clear 8 (codes "refused ") = search rules in
     let at_word : Clear 4 (codes " at ") = search rules in
     let number = decimal_clear 2 (cause_number fault.cause) (omega arith) (omega arith) (omega arith) in
     let at = line_clear (codes " at ") 20 fault.place at_word (omega arith) (omega arith) (omega arith) in
     wider (omega arith) (joined _ _ (joined _ _ refused_word number) at)
-
--- a text that was not cut lies there whole, and then zeros
-pub laid : (text : Text) (answer : Result Certificate Fault) → content text ≡ take 128 (text_of answer) → Clear 128 (text_of answer) → (content text ≡ text_of answer) × (text.bytes ≡ laid_out answer)
-unfolding laid_out
-laid text answer cut clear =
-    let same = cut ∙ take_all 128 (text_of answer) clear.fits in
-    let long : 128 - text.len ≡ 128 - length (text_of answer) = omega (arith, ap length same, length-take-le text.len text.bytes (omega (arith, text.within, text.sized))) in (
-      same,
-      sym (take-append-drop text.len text.bytes)
-          ∙ ap (λ bytes. bytes ++ drop text.len text.bytes) same
-          ∙ ap (λ bytes. text_of answer ++ bytes) text.blank
-          ∙ ap (λ n. text_of answer ++ replicate n 0) long,
-    )

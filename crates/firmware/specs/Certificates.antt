@@ -1,9 +1,9 @@
 -- The certificate of a file, and the number that stands for it.
 use Rattle.std.specs.Prelude.{◌≡◌, ℕ, ◌≤◌, true, ◌↔◌, List, length, Ok, Err, sum, Result, nat_le}
-use Rattle.std.specs.Option.{unwrap_or}
+use Rattle.std.specs.Option.{option_map, unwrap_or}
 use Rattle.certificate.specs.Certified.{Certified}
 use Rattle.certificate.specs.Marking.{least_yield, LeastYield, Passes, Fails}
-use Rattle.certificate.specs.Refusals.{refusal_of}
+use Rattle.certificate.specs.Refusals.{number_of, refusal_of}
 use Rattle.certificate.specs.declared.certificate.Certificate.{Certificate}
 use Rattle.certificate.specs.declared.marking_test.MarkingTest.{MarkingTest}
 use Rattle.graph.specs.Asked.{deadline_of, volume_of, length_of}
@@ -62,7 +62,7 @@ pub record OfPlan (read : Reading) (plan : Plan) : Type 0 where
 
 -- In one number: 0 for certified, else the refusal's.
 abbrev pub number_by : Result Certificate Fault → ℕ
-number_by (Ok certificate) = unwrap_or (refusal_of certificate.certified) 0
+number_by (Ok certificate) = unwrap_or (option_map number_of (refusal_of certificate.certified)) 0
 number_by (Err bad) = cause_number bad.cause
 
 -- What makes a file's certificate right: its records are those of the file; no marking yields less than the least yield and some marking yields it;

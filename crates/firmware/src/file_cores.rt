@@ -2,7 +2,7 @@ ghost use Rattle.std.specs.Prelude.{◌≡◌, ℕ};
 ghost use Rattle.firmware.specs.Cores.{granted, width_of, width_narrow};
 
 use cores::{Block, HoldBack, Ladder, Late, Supply};
-use planfile::{Layers, Window};
+use planfile::Layers;
 
 // The cores that a file grants: hold-back over late over the ladder of its blocks.
 #[derive(Drop)]
@@ -10,24 +10,15 @@ pub struct FileCores<'a> {
     stack: HoldBack<Late<Ladder<'a>>>,
 }
 
-// Holds nothing back.
-const NO_WINDOW: Window = Window {
-    cores: 0,
-    from: 0,
-    until: 0,
-};
-
 impl<'a> FileCores<'a> {
     // A layer that the file does not have changes nothing.
     pub fn new(blocks: &'a [Block], layers: Layers) -> FileCores<'a>
         ensures { (tick : ℕ) → width_of result tick ≡ granted blocks.now layers tick }
     {
-        let late = layers.late.unwrap_or(0);
-        let window = layers.hold_back.unwrap_or(NO_WINDOW);
-        let (from, until) = (u32::from(window.from), u32::from(window.until));
-        let begun = Late::new(Ladder::new(blocks), u32::from(late));
+        let late = u32::from(layers.late.unwrap_or_default());
+        let window = layers.hold_back.unwrap_or_default();
         FileCores {
-            stack: HoldBack::new(begun, window.cores, from, until),
+            stack: HoldBack::new(Late::new(Ladder::new(blocks), late), window),
         }
     }
 }

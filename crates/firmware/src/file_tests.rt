@@ -58,8 +58,8 @@ const LADDER: [Block; 3] = [
 fn widths(rt: &impl Abort, layers: Layers, wanted: [u8; 7]) {
     let cores = FileCores::new(&LADDER, layers);
     let ticks = [0, 1, 2, 3, 4, 5, u32::MAX];
-    for i in 0..7 {
-        assert_eq!(rt; cores.width_at(ticks[i]), wanted[i]);
+    for (tick, width) in ticks.iter().zip(&wanted) {
+        assert_eq!(rt; cores.width_at(*tick), *width);
     }
 }
 

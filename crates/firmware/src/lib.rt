@@ -1,4 +1,4 @@
-// What the firmware answers, without heap and without formatting.
+// What the firmware answers, without heap and without the formatting of the standard library.
 #![tactic(auto)]
 
 mod certifying;

@@ -1,6 +1,7 @@
 -- The list of edges keeps up with the predecessors as an edge is added.
-use Rattle.std.proofs.Common.{◌≡◌, ℕ, zero, suc, ◌+◌, ◌<◌, ◌≤◌, true, false, ◌&&◌, eqb, ltb, List, [], ◌∷◌, length, get_or, take, set, sym, refl, ap, ◌∙◌, subst, ⊎_elim, le_of_suc-le-suc, arith}
-use Rattle.std.proofs.lemmas.List.{get_or-set_same, get_or-set_other, get_or-take, length-take-le}
+use Rattle.std.proofs.Common.{◌≡◌, ℕ, zero, suc, ◌+◌, ◌<◌, true, false, ◌&&◌, eqb, ltb, List, [], ◌∷◌, ◌++◌, length, get_or, set, length-append, sym, refl, ap, ◌∙◌, subst, ⊎_elim, le_of_suc-le-suc, arith}
+use Rattle.std.proofs.lemmas.List.{get_or_append_left, get_or-set_same, get_or-set_other}
+use Rattle.std.proofs.Math.Seq.{get_or-append_seam}
 use Rattle.std.proofs.lemmas.Bool.{cases_eq, cases_Bool, eq-eqb, ne_eqb, eqb-true, lt-ltb, and_parts, and_from, and_left, or_cases, or_left, or_right, or_from, or_parts, both_ways}
 use Rattle.graph.specs.Drafts.{listed}
 use Rattle.graph.specs.Edges.{no_edge, EachInGraph, NoOther}
@@ -30,31 +31,25 @@ module _ (from to : ℕ) where
   listed_no (edge ∷ edges) not (suc i) under is =
       listed_no edges (or_parts (eqb edge.from from && eqb edge.to to) _ not).1 i (le_of_suc-le-suc under) is
 
-module _ (predecessors : List StepSet) (edges : List Edge) (added from to : ℕ) (room : added ≤ length edges) where
+module _ (predecessors : List StepSet) (edges : List Edge) (from to : ℕ) where
   -- an edge is in the list where it is in the graph
-  pub listed_has : EachInGraph predecessors edges added → has (set_before predecessors to) from ≡ false → listed from to (take added edges) ≡ false
+  pub listed_has : EachInGraph predecessors edges → has (set_before predecessors to) from ≡ false → listed from to edges ≡ false
   listed_has all outside =
       ⊎_elim
       (λ there.
-      let found = listed_yes from to (take added edges) there in
-      let under : found.0 < added = omega (arith, found.1, length-take-le added edges room) in
-      let is : get_or edges found.0 no_edge ≡ record { from = from; to = to } = sym (get_or-take added edges found.0 no_edge under) ∙ found.2 in
-      absurd (both_ways (has (set_before predecessors to) from) outside (subst (λ (e : Edge). has (set_before predecessors e.to) e.from ≡ true) is (all found.0 under))))
+      let found = listed_yes from to edges there in
+      absurd (both_ways (has (set_before predecessors to) from) outside (subst (λ (e : Edge). has (set_before predecessors e.to) e.from ≡ true) found.2 (all found.0 found.1))))
       (λ not. not)
-      (cases_Bool (listed from to (take added edges)))
+      (cases_Bool (listed from to edges))
 
-  pub has_listed : NoOther predecessors edges added → has (set_before predecessors to) from ≡ true → listed from to (take added edges) ≡ true
+  pub has_listed : NoOther predecessors edges → has (set_before predecessors to) from ≡ true → listed from to edges ≡ true
   has_listed only inside =
       ⊎_elim
       (λ there. there)
-      (λ not.
-      absurd (both_ways (has (set_before predecessors to) from)
-      (only from to (λ i under is.
-      listed_no from to (take added edges) not i (omega (arith, length-take-le added edges room)) (get_or-take added edges i no_edge under ∙ is)))
-      inside))
-      (cases_Bool (listed from to (take added edges)))
+      (λ not. absurd (both_ways (has (set_before predecessors to) from) (only from to (listed_no from to edges not)) inside))
+      (cases_Bool (listed from to edges))
 
-  pub has_is_listed : EachInGraph predecessors edges added → NoOther predecessors edges added → has (set_before predecessors to) from ≡ listed from to (take added edges)
+  pub has_is_listed : EachInGraph predecessors edges → NoOther predecessors edges → has (set_before predecessors to) from ≡ listed from to edges
   has_is_listed all only =
       ⊎_elim
       (λ inside. inside ∙ sym (has_listed only inside))
@@ -102,25 +97,35 @@ module _ (predecessors : List StepSet) (from to : ℕ) (there : to < length pred
       (λ other. ap (λ held. has held n) (elsewhere step other) ∙ outside)
       (cases_eq step to)
 
-  module _ (edges : List Edge) (added : ℕ) (room : added < length edges) where
+  module _ (edges : List Edge) where
     abbrev new_edge : Edge
     new_edge = record { from = from; to = to }
 
-    pub listed_more : EachInGraph predecessors edges added → EachInGraph more (set edges added new_edge) (added + 1)
+    abbrev more_edges : List Edge
+    more_edges = edges ++ new_edge ∷ []
+
+    length_more : length more_edges ≡ length edges + 1
+    length_more = length-append edges (new_edge ∷ [])
+
+    earlier_edge : (i : ℕ) → i < length edges → get_or more_edges i no_edge ≡ get_or edges i no_edge
+    earlier_edge i under = get_or_append_left edges (new_edge ∷ []) no_edge i under
+
+    last_edge : (i : ℕ) → i ≡ length edges → get_or more_edges i no_edge ≡ new_edge
+    last_edge i last = ap (λ k. get_or more_edges k no_edge) last ∙ get_or-append_seam edges new_edge [] no_edge
+
+    pub listed_more : EachInGraph predecessors edges → EachInGraph more more_edges
     listed_more all i under =
         ⊎_elim
-        (λ last.
-        let is = ap (λ k. get_or (set edges added new_edge) k no_edge) last ∙ get_or-set_same edges added new_edge no_edge room in
-        subst (λ (e : Edge). has (set_before more e.to) e.from ≡ true) (sym is) has_new)
+        (λ last. subst (λ (e : Edge). has (set_before more e.to) e.from ≡ true) (sym (last_edge i last)) has_new)
         (λ earlier.
-        let is = get_or-set_other edges added i new_edge no_edge earlier in
-        subst (λ (e : Edge). has (set_before more e.to) e.from ≡ true) (sym is) (has_old _ _ (all i (omega arith))))
-        (cases_eq i added)
+        let lower : i < length edges = omega (arith, length_more) in
+        subst (λ (e : Edge). has (set_before more e.to) e.from ≡ true) (sym (earlier_edge i lower)) (has_old _ _ (all i lower)))
+        (cases_eq i (length edges))
 
-    pub complete_more : NoOther predecessors edges added → NoOther more (set edges added new_edge) (added + 1)
+    pub complete_more : NoOther predecessors edges → NoOther more more_edges
     complete_more only n step never =
         has_only step n
-        (only n step (λ i under is. never i (omega arith) (get_or-set_other edges added i new_edge no_edge (λ last. omega arith) ∙ is)))
+        (only n step (λ i under is. never i (omega (arith, length_more)) (earlier_edge i under ∙ is)))
         (λ same_from same_to.
-        never added (omega arith)
-        (get_or-set_same edges added new_edge no_edge room ∙ same_edge new_edge n step (sym same_from) (sym same_to)))
+        never (length edges) (omega (arith, length_more))
+        (last_edge (length edges) refl ∙ same_edge new_edge n step (sym same_from) (sym same_to)))

@@ -1,12 +1,11 @@
 -- How many edges a graph has: one more with each that is added, and never more than 2,016.
-use Rattle.std.proofs.Common.{◌≡◌, ℕ, zero, suc, ◌+◌, ◌-◌, ◌<◌, ◌≤◌, Bool, true, false, cond, ◌&&◌, ◌||◌, eqb, ltb, List, [], ◌∷◌, length, get_or, set, replicate, count_by, sym, refl, ap, ◌∙◌, subst, ⊎_elim, arith}
+use Rattle.std.proofs.Common.{◌≡◌, ℕ, zero, suc, ◌+◌, ◌-◌, ◌<◌, ◌≤◌, Bool, true, false, cond, ◌&&◌, ◌||◌, eqb, ltb, List, [], ◌∷◌, ◌++◌, length, get_or, set, count_by, sym, refl, ap, ◌∙◌, subst, ⊎_elim, arith}
 use Rattle.std.specs.List.{range_with_len}
-use Rattle.std.proofs.lemmas.List.Sums.{sum_by-cons, sum_by-set, length-filter}
+use Rattle.std.proofs.lemmas.List.Sums.{sum_by-cons, sum_by-set, sum_by-append, length-filter}
 use Rattle.std.proofs.lemmas.Bool.{cases_eq, cases_Bool, eq-eqb, ne_eqb, lt-ltb, or_right, and_from}
 use Rattle.graph.specs.Edges.{edges_in}
 use Rattle.graph.specs.Graphs.{Rising, set_before}
 use Rattle.graph.specs.Sets.{has, none, with_step, members}
-use Rattle.graph.specs.declared.draft.Draft.{Draft}
 use Rattle.graph.specs.declared.step_set.StepSet.{StepSet}
 use Rattle.graph.proofs.Members.{members_none}
 use Rattle.graph.specs.SetLaws.{has_none, has_with}
@@ -83,9 +82,9 @@ len_none = ap length (members_none none has_none)
 abbrev len : StepSet → ℕ
 len held = length (members held)
 
-pub edges_none : (n : ℕ) → edges_in (replicate n none) ≡ 0
-edges_none zero = refl
-edges_none (suc n) = omega (arith, sum_by-cons len none (replicate n none), edges_none n, len_none)
+-- a step more, with no predecessors
+pub edges_none : (predecessors : List StepSet) → edges_in (predecessors ++ none ∷ []) ≡ edges_in predecessors
+edges_none predecessors = omega (arith, sum_by-append len predecessors (none ∷ []), sum_by-cons len none [], len_none)
 
 pub edges_with : (predecessors : List StepSet) (from to : ℕ) → to < length predecessors → from < 64 → has (set_before predecessors to) from ≡ false → edges_in (set predecessors to (with_step from (set_before predecessors to))) ≡ edges_in predecessors + 1
 edges_with predecessors from to there within outside =
@@ -105,12 +104,15 @@ edges_row [] a few = omega arith
 edges_row (held ∷ predecessors) a few =
     omega (arith, sum_by-cons len held predecessors, few 0, edges_row predecessors (suc a) (λ k. omega (arith, few (suc k))))
 
-pub edges_bound : (predecessors : List StepSet) → length predecessors ≡ 64 → Rising predecessors → edges_in predecessors ≤ 2016
-edges_bound predecessors size rising =
-    let most = edges_row predecessors 0 (λ k. omega (arith, len_below (set_before predecessors k) k (rising k))) in
-    subst (λ n. edges_in predecessors ≤ row 0 n) size most
+row_grows : (a n m : ℕ) → n ≤ m → row a n ≤ row a m
+row_grows a zero m under = omega arith
+row_grows a (suc n) zero under = absurd (omega arith)
+row_grows a (suc n) (suc m) under = omega (arith, row_grows (suc a) n m (omega arith))
 
--- there is a place for each edge of a draft
-pub few_edges : (draft : Draft) → draft.added ≤ length draft.edges
-few_edges draft =
-    omega (arith, draft.sized, draft.counted, edges_bound draft.graph.predecessors draft.graph.sized.1 draft.graph.rising)
+pub edges_bound : (predecessors : List StepSet) → length predecessors ≤ 64 → Rising predecessors → edges_in predecessors ≤ 2016
+edges_bound predecessors few rising =
+    omega (
+      arith,
+      edges_row predecessors 0 (λ k. omega (arith, len_below (set_before predecessors k) k (rising k))),
+      row_grows 0 (length predecessors) 64 few,
+    )

@@ -5,6 +5,8 @@ pub mod Walking
 pub mod Listing
 pub mod PathLists
 pub mod Order
+pub mod Filling
+pub mod GraphLists
 pub mod EdgeCounts
 pub mod Refusing
 pub mod Adding

@@ -1,5 +1,5 @@
 -- The list of a set's steps.
-use Rattle.std.proofs.Common.{◌≡◌, ℕ, zero, suc, ◌+◌, ◌/◌, ◌^◌, ◌<◌, ◌≤◌, Bool, true, false, cond, not, ◌&&◌, eqb, List, [], ◌∷◌, length, filter, sym, refl, ap, ◌∙◌, ap₂, ⊎_elim, add-zero, div-one, arith, shr-shr}
+use Rattle.std.proofs.Common.{◌≡◌, ℕ, zero, suc, ◌+◌, ◌/◌, ◌^◌, ◌<◌, ◌≤◌, Bool, true, false, cond, not, ◌&&◌, eqb, List, [], ◌∷◌, length, filter, sym, refl, ap, ◌∙◌, ap₂, subst, ⊎_elim, add-zero, div-one, arith, shr-shr}
 use mathlib.Core.Bool.{and-true, and-false}
 use mathlib.Core.List.Memᴰ
 use mathlib.Core.List.{Memᴰ}
@@ -109,6 +109,10 @@ all_from_mem P (n ∷ ns) holds = (holds n (Memᴰ.head refl), all_from_mem P ns
 
 pub members_all : (set : StepSet) → All (λ n. (has set n ≡ true) × (n < 64)) (members set)
 members_all set = all_from_mem (λ n. (has set n ≡ true) × (n < 64)) (members set) (members_has set)
+
+-- what stands first among a set's steps is one of them
+pub members_first : (set : StepSet) (step : ℕ) (rest : List ℕ) → members set ≡ step ∷ rest → (has set step ≡ true) × (step < 64)
+members_first set step rest is = (subst (All (λ n. (has set n ≡ true) × (n < 64))) is (members_all set)).0
 
 -- the least step stands after the trailing zeros
 pub least_first : (set : StepSet) → 0 < set.bits → set.bits < 2 ^ 64 → Least set (count_trailing_zeros 64 set.bits) × (count_trailing_zeros 64 set.bits < 64)

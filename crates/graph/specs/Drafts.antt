@@ -1,10 +1,8 @@
 -- What a draft holds and what its calls make of it.
-use Rattle.std.specs.Prelude.{◌≡◌, ℕ, ◌<◌, Bool, false, cond, ◌&&◌, ◌||◌, ◌⊎◌, ◌↔◌, List, [], ◌∷◌, ◌++◌, length, take, Some, None, Ok, Err, Option, Result, ◌==◌, nat_le, nat_lt, slice_index_or}
-use Rattle.std.specs.Option.{option_map}
-use Rattle.graph.specs.Edges.{no_edge}
-use Rattle.graph.specs.Graphs.{set_before}
+use Rattle.std.specs.Prelude.{◌≡◌, ℕ, Bool, false, cond, ◌&&◌, ◌||◌, ◌⊎◌, ◌↔◌, List, [], ◌∷◌, ◌++◌, length, Some, None, Ok, Err, Option, Result, ◌==◌, nat_le, nat_lt}
+use Rattle.std.specs.Option.{option_map, unwrap_or}
+use Rattle.graph.specs.Graphs.{times_of, sets_of, set_before}
 use Rattle.graph.specs.Implied.{FirstImpliedBy, NoneImpliedBy, first_implied}
-use Rattle.graph.specs.Plans.{Implied}
 use Rattle.graph.specs.Sets.{has}
 use Rattle.graph.specs.declared.draft.Draft.{Draft}
 use Rattle.graph.specs.declared.edge.Edge.{Edge}
@@ -20,9 +18,9 @@ pub record Content : Type 0 where
 
 abbrev pub content : Draft → Content
 content draft = record {
-  deadline = draft.deadline;
-  times = take draft.graph.count draft.graph.times;
-  edges = take draft.added draft.edges;
+  deadline = unwrap_or draft.deadline 0;
+  times = times_of draft.graph.steps;
+  edges = draft.edges;
 }
 
 abbrev pub with_deadline : ℕ → Content → Content
@@ -64,37 +62,11 @@ abbrev pub unless : {A : Type 0} → Option Refusal → A → A → A
 unless (Some refusal) kept changed = kept
 unless None kept changed = changed
 
--- A draft lacks its deadline or has no step.
-abbrev pub Lacking : Draft → Type 0
-Lacking draft = (draft.deadline ≡ 0) ⊎ (draft.graph.count ≡ 0)
-
--- The edge that was added at a place is implied.
-abbrev pub ImpliedAt : Draft → ℕ → Type 0
-ImpliedAt draft i = Implied draft.graph.predecessors (slice_index_or draft.edges i no_edge).from (slice_index_or draft.edges i no_edge).to
-
--- None of the edges that were added before a place is implied.
-abbrev pub NoneImplied : Draft → ℕ → Type 0
-NoneImplied draft place = (i : ℕ) → i < place → ImpliedAt draft i → ⊥
-
--- The first implied edge in the order of adding.
-abbrev pub FirstImplied : Draft → ℕ → Type 0
-FirstImplied draft i = (i < draft.added) × ImpliedAt draft i × NoneImplied draft i
-
 -- A plan has just what a draft holds: its deadline, its times, and as predecessors the first steps of its edges.
 pub record PlanOf (held : Content) (plan : Plan) : Type 0 where
   pub deadline : plan.deadline ≡ held.deadline
-  pub times : take plan.graph.count plan.graph.times ≡ held.times
-  pub edges : (from to : ℕ) → has (set_before plan.graph.predecessors to) from ≡ listed from to held.edges
-
--- What finishing a draft answers: that it is incomplete, the first implied edge by its place in the order of adding, or its plan.
-abbrev pub Finished : Draft → Result Plan Refusal → Type 0
-Finished draft (Ok plan) = (Lacking draft → ⊥) × NoneImplied draft draft.added × PlanOf (content draft) plan × (plan.graph ≡ draft.graph)
-Finished draft (Err Incomplete) = Lacking draft
-Finished draft (Err (ImpliedEdge i)) = (Lacking draft → ⊥) × FirstImplied draft i
-Finished draft (Err OutOfRange) = ⊥
-Finished draft (Err TooManySteps) = ⊥
-Finished draft (Err NotRising) = ⊥
-Finished draft (Err EdgeTwice) = ⊥
+  pub times : times_of plan.graph.steps ≡ held.times
+  pub edges : (from to : ℕ) → has (set_before (sets_of plan.graph.steps) to) from ≡ listed from to held.edges
 
 -- The deadline is missing, or there is no step.
 abbrev pub Lacks : Content → Type 0

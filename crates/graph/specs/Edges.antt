@@ -13,12 +13,12 @@ no_edge = record { from = 0; to = 0 }
 abbrev pub edges_in : List StepSet → ℕ
 edges_in predecessors = sum_by (λ set. length (members set)) predecessors
 
--- Each edge that was added is one of the graph.
-abbrev pub EachInGraph : List StepSet → List Edge → ℕ → Type 0
-EachInGraph predecessors edges added =
-    (i : ℕ) → i < added → has (set_before predecessors (slice_index_or edges i no_edge).to) (slice_index_or edges i no_edge).from ≡ true
+-- Each edge of a list is one of the graph.
+abbrev pub EachInGraph : List StepSet → List Edge → Type 0
+EachInGraph predecessors edges =
+    (i : ℕ) → i < length edges → has (set_before predecessors (slice_index_or edges i no_edge).to) (slice_index_or edges i no_edge).from ≡ true
 
--- The graph has no edge that was not added.
-abbrev pub NoOther : List StepSet → List Edge → ℕ → Type 0
-NoOther predecessors edges added =
-    (from to : ℕ) → ((i : ℕ) → i < added → slice_index_or edges i no_edge ≡ record { from = from; to = to } → ⊥) → has (set_before predecessors to) from ≡ false
+-- The graph has no edge that is not in the list.
+abbrev pub NoOther : List StepSet → List Edge → Type 0
+NoOther predecessors edges =
+    (from to : ℕ) → ((i : ℕ) → i < length edges → slice_index_or edges i no_edge ≡ record { from = from; to = to } → ⊥) → has (set_before predecessors to) from ≡ false

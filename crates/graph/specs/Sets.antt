@@ -2,6 +2,7 @@
 use Rattle.std.specs.Prelude.{◌≡◌, ℕ, ◌+◌, ◌-◌, ◌/◌, ◌%◌, ◌^◌, ◌<◌, Bool, true, false, cond, not, ◌&&◌, List, filter, ◌==◌, bit_or, nat_lt}
 use Rattle.std.specs.List.{range_with_len}
 use Rattle.graph.specs.declared.step_set.StepSet.{StepSet}
+use Rattle.graph.specs.declared.steps.Steps.{Steps}
 
 -- A step is in a set where its bit is 1.
 unfoldable pub has : StepSet → ℕ → Bool
@@ -26,6 +27,10 @@ both left right = record { bits = bit_or left.bits right.bits }
 -- The steps of a set, in rising order.
 unfoldable pub members : StepSet → List ℕ
 members set = filter (has set) (range_with_len 0 64)
+
+-- The steps that an iterator over a set has still to give.
+abbrev pub steps_left : Steps → List ℕ
+steps_left steps = members steps.rest
 
 -- The least step of a set: it is in the set, and no lower number is.
 pub record Least (set : StepSet) (step : ℕ) : Type 0 where

@@ -1,13 +1,12 @@
 // Building a plan: each call takes the draft one part further or refuses and leaves it as it was.
-ghost use Rattle.std.specs.Prelude.{◌≡◌, false, [], length, is_ok};
+ghost use Rattle.std.specs.Prelude.{◌≡◌, [], length, OnErr};
 ghost use Rattle.graph.specs.Drafts.{content, with_deadline, with_time, with_edge, deadline_refusal, step_refusal, edge_refusal, answered, unless};
 
-use crate::draft::{Draft, MOST_EDGES};
+use crate::draft::Draft;
 use crate::edge::Edge;
-use crate::graph::{Graph, MOST_STEPS};
+use crate::graph::{Graph, LONGEST, MOST_STEPS};
 use crate::refusal::Refusal;
-
-const LONGEST: u16 = 20_000;
+use fixed::FixedList;
 
 impl Draft {
     // A draft with nothing in it.
@@ -16,9 +15,8 @@ impl Draft {
     {
         Draft {
             graph: Graph::empty(),
-            deadline: 0,
-            edges: [Edge { from: 0, to: 0 }; MOST_EDGES],
-            added: 0,
+            deadline: None,
+            edges: FixedList::new(),
         }
     }
 
@@ -26,12 +24,12 @@ impl Draft {
     pub fn set_deadline(&mut self, deadline: u16) -> Result<(), Refusal>
         ensures answer { result ≡ answered (deadline_refusal deadline) tt }
         ensures content { content self.new ≡ unless (deadline_refusal deadline) (content self.old) (with_deadline deadline (content self.old)) }
-        ensures kept { is_ok result ≡ false → self.new ≡ self.old }
+        ensures kept { OnErr result (self.new ≡ self.old) }
     {
-        if deadline < 1 || deadline > LONGEST {
+        if !(1..=LONGEST).contains(&deadline) {
             return Err(Refusal::OutOfRange);
         }
-        self.deadline = deadline;
+        self.deadline = Some(deadline);
         Ok(())
     }
 
@@ -39,13 +37,13 @@ impl Draft {
     pub fn add_step(&mut self, time: u16) -> Result<u8, Refusal>
         ensures answer { result ≡ answered (step_refusal (content self.old) time) (length (content self.old).times) }
         ensures content { content self.new ≡ unless (step_refusal (content self.old) time) (content self.old) (with_time time (content self.old)) }
-        ensures kept { is_ok result ≡ false → self.new ≡ self.old }
+        ensures kept { OnErr result (self.new ≡ self.old) }
     {
-        let step = self.graph.count;
+        let step = self.graph.count();
         if usize::from(step) >= MOST_STEPS {
             return Err(Refusal::TooManySteps);
         }
-        if time < 1 || time > LONGEST {
+        if !(1..=LONGEST).contains(&time) {
             return Err(Refusal::OutOfRange);
         }
         self.graph.add_step(time);
@@ -56,17 +54,17 @@ impl Draft {
     pub fn add_edge(&mut self, from: u8, to: u8) -> Result<(), Refusal>
         ensures answer { result ≡ answered (edge_refusal (content self.old) from to) tt }
         ensures content { content self.new ≡ unless (edge_refusal (content self.old) from to) (content self.old) (with_edge (record { from = from; to = to }) (content self.old)) }
-        ensures kept { is_ok result ≡ false → self.new ≡ self.old }
+        ensures kept { OnErr result (self.new ≡ self.old) }
     {
-        if from >= to || to >= self.graph.count {
+        if from >= to || to >= self.graph.count() {
             return Err(Refusal::NotRising);
         }
-        if self.graph.predecessors[usize::from(to)].contains(from) {
+        if self.graph.predecessors(to).contains(from) {
             return Err(Refusal::EdgeTwice);
         }
         self.graph.add_edge(from, to);
-        self.edges[usize::from(self.added)] = Edge { from, to };
-        self.added += 1;
+        // There is a place for each edge that the steps can have.
+        let _ = self.edges.push(Edge { from, to });
         Ok(())
     }
 }

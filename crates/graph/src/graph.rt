@@ -1,58 +1,96 @@
-ghost use Rattle.std.specs.Prelude.{◌≡◌, ◌+◌, ◌<◌, ◌≤◌, length, replicate, slice_set};
-ghost use Rattle.graph.specs.Graphs.{set_before, Timed, Rising, Unused};
+ghost use Rattle.std.specs.Prelude.{◌≡◌, ◌<◌, ◌≤◌, [], ◌∷◌, ◌++◌, length, slice_set, slice_index_or, if◌then◌else◌, Some, None, nat_lt};
+ghost use Rattle.graph.specs.Graphs.{times_of, sets_of, no_step, set_before, Timed, Rising};
 ghost use Rattle.graph.specs.Sets.{none, with_step};
 
 use crate::step_set::StepSet;
+use fixed::{Blank, FixedList};
 
-pub(crate) const MOST_STEPS: usize = 64;
+// The most steps of a plan.
+pub const MOST_STEPS: usize = 64;
 
-// Steps with their worst-case times and predecessors. The places from `count` on are unused.
+// The longest time of a step, and the latest deadline, in ticks.
+pub const LONGEST: u16 = 20_000;
+
+// What a graph has of a step: its worst-case time and its predecessors.
+#[derive(Clone, Copy, PartialEq, Eq, Debug)]
+pub struct Step {
+    pub time: u16,
+    pub predecessors: StepSet,
+}
+
+impl Blank for Step {
+    ghost blank = { no_step };
+
+    fn blank() -> Step {
+        Step {
+            time: 0,
+            predecessors: StepSet::new(),
+        }
+    }
+}
+
+// Steps by number, each with its worst-case time and its predecessors.
 #[derive(Clone, Copy)]
 pub(crate) struct Graph {
-    pub(crate) count: u8,
-    pub(crate) times: [u16; MOST_STEPS],
-    pub(crate) predecessors: [StepSet; MOST_STEPS],
-    ghost sized: { (length times ≡ 64) × (length predecessors ≡ 64) },
-    ghost few: { count ≤ 64 },
-    ghost timed: { Timed count times },
-    ghost rising: { Rising predecessors },
-    ghost unused: { Unused count times predecessors },
+    pub(crate) steps: FixedList<Step, MOST_STEPS>,
+    ghost few: { length steps ≤ 64 },
+    ghost timed: { Timed (length steps) (times_of steps) },
+    ghost rising: { Rising (sets_of steps) },
 }
 
 impl Graph {
     // No steps.
     pub(crate) fn empty() -> Graph
-        ensures count { result.count ≡ 0 }
-        ensures times { result.times ≡ replicate 64 0 }
-        ensures predecessors { result.predecessors ≡ replicate 64 none }
+        ensures { result.steps ≡ [] }
     {
         Graph {
-            count: 0,
-            times: [0; MOST_STEPS],
-            predecessors: [StepSet::new(); MOST_STEPS],
+            steps: FixedList::new(),
         }
+    }
+
+    pub(crate) fn count(&self) -> u8
+        ensures { result ≡ length self.now.steps }
+    {
+        self.steps.len() as u8
+    }
+
+    // A step by its number, if there is one.
+    pub(crate) fn get(&self, step: u8) -> Option<Step>
+        ensures { result ≡ (if nat_lt step (length self.now.steps) then Some (slice_index_or self.now.steps step no_step) else None) }
+    {
+        self.steps.as_slice().get(usize::from(step)).copied()
+    }
+
+    // The predecessors of a step: none where there is no step.
+    pub(crate) fn predecessors(&self, step: u8) -> StepSet
+        ensures { result ≡ set_before (sets_of self.now.steps) step }
+    {
+        self.get(step).unwrap_or(Step::blank()).predecessors
     }
 
     // One step more, with this worst-case time.
     pub(crate) fn add_step(&mut self, time: u16)
-        requires room { self.old.count < 64 }
+        requires room { length self.old.steps < 64 }
         requires range { (1 ≤ time) × (time ≤ 20000) }
-        ensures count { self.new.count ≡ self.old.count + 1 }
-        ensures times { self.new.times ≡ slice_set self.old.times self.old.count time }
-        ensures predecessors { self.new.predecessors ≡ self.old.predecessors }
+        ensures times { times_of self.new.steps ≡ times_of self.old.steps ++ time ∷ [] }
+        ensures predecessors { sets_of self.new.steps ≡ sets_of self.old.steps ++ none ∷ [] }
     {
-        self.times[usize::from(self.count)] = time;
-        self.count += 1;
+        // There is room, as is required.
+        let _ = self.steps.push(Step {
+            time,
+            predecessors: StepSet::new(),
+        });
     }
 
     // One predecessor more of a step.
     pub(crate) fn add_edge(&mut self, from: u8, to: u8)
         requires rises { from < to }
-        requires there { to < self.old.count }
-        ensures count { self.new.count ≡ self.old.count }
-        ensures times { self.new.times ≡ self.old.times }
-        ensures predecessors { self.new.predecessors ≡ slice_set self.old.predecessors to (with_step from (set_before self.old.predecessors to)) }
+        requires there { to < length self.old.steps }
+        ensures times { times_of self.new.steps ≡ times_of self.old.steps }
+        ensures predecessors { sets_of self.new.steps ≡ slice_set (sets_of self.old.steps) to (with_step from (set_before (sets_of self.old.steps) to)) }
     {
-        self.predecessors[usize::from(to)].insert(from);
+        let mut step = self.steps.as_slice()[usize::from(to)];
+        step.predecessors.insert(from);
+        self.steps.set(usize::from(to), step);
     }
 }

@@ -16,14 +16,17 @@ mod plan_tests;
 mod questions;
 mod refusal;
 mod step_set;
+mod steps;
 #[cfg(test)]
 mod tests;
 mod walk;
 
 pub use ancestors::Ancestors;
 pub use draft::Draft;
+pub use graph::{LONGEST, MOST_STEPS};
 pub use length::Length;
 pub use measure::Measure;
 pub use plan::Plan;
 pub use refusal::Refusal;
 pub use step_set::StepSet;
+pub use steps::Steps;

@@ -1,5 +1,6 @@
 // What is measured of a plan's steps and along its paths.
-ghost use Rattle.std.specs.Prelude.{◌≡◌, ℕ, ◌≤◌, if◌then◌else◌, None, Decides, MatchOption, nat_lt};
+ghost use Rattle.std.specs.Prelude.{◌≡◌, ℕ, ◌≤◌, if◌then◌else◌, None, IsTrue, ◌↔◌, MatchOption, nat_lt, max};
+ghost use Rattle.std.specs.List.{reduce};
 ghost use Rattle.graph.specs.Asked.{steps_of, time_in, before_in, volume_of, length_of};
 ghost use Rattle.graph.specs.Lengths.{Greatest, Longest};
 ghost use Rattle.graph.specs.Measures.{length_at, ancestors_at};
@@ -14,16 +15,24 @@ use crate::measure::Measure;
 use crate::plan::Plan;
 use crate::step_set::StepSet;
 
+// The greatest of some lengths.
+fn greatest(lengths: &[u32]) -> Option<u32>
+    ensures { result ≡ reduce max lengths.now }
+{
+    lengths.iter().copied().max()
+}
+
 impl Plan {
     // The worst-case time of all steps together.
     pub fn volume(&self) -> u32
         ensures { result ≡ volume_of self.now }
     {
-        let mut sum = 0;
-        for time in &self.graph.times {
-            sum += u32::from(*time);
-        }
-        sum
+        self.graph
+            .steps
+            .as_slice()
+            .iter()
+            .map(|step| u32::from(step.time))
+            .sum()
     }
 
     // The value of a measure at each step; where there is no step, the start.
@@ -39,11 +48,8 @@ impl Plan {
         ensures value { result ≡ (if nat_lt step (steps_of self.now) then length_at (time_in self.now) (before_in self.now) step else None) }
         ensures greatest { MatchOption result (steps_of self.now ≤ step) (λ most. Greatest (before_in self.now) (time_in self.now) step most × (most ≤ 1280000)) }
     {
-        if step < self.graph.count {
-            Some(self.walk(&Length)[usize::from(step)])
-        } else {
-            None
-        }
+        self.graph.get(step)?;
+        Some(self.walk(&Length)[usize::from(step)])
     }
 
     // The greatest time of a path: 0 for the empty plan.
@@ -51,25 +57,17 @@ impl Plan {
         ensures value { result ≡ length_of self.now }
         ensures greatest { Longest (before_in self.now) (time_in self.now) (steps_of self.now) result }
     {
-        let lengths = self.walk(&Length);
-        let mut most: u32 = 0;
-        for step in 0..self.graph.count {
-            most = most.max(lengths[usize::from(step)]);
-        }
-        most
+        greatest(&self.walk(&Length)[..usize::from(self.count())]).unwrap_or(0)
     }
 
     // The other steps on the paths that end at a step, if the plan has the step.
     pub fn ancestors(&self, step: u8) -> Option<StepSet>
         ensures value { result ≡ (if nat_lt step (steps_of self.now) then ancestors_at (time_in self.now) (before_in self.now) step else None) }
-        ensures steps { MatchOption result (steps_of self.now ≤ step) (λ found. (n : ℕ) → Decides (has found n) (Ancestor (before_in self.now) n step)) }
+        ensures steps { MatchOption result (steps_of self.now ≤ step) (λ found. (n : ℕ) → (IsTrue (has found n) ↔ Ancestor (before_in self.now) n step)) }
     {
-        if step < self.graph.count {
-            let mut steps = self.walk(&Ancestors)[usize::from(step)];
-            steps.remove(step);
-            Some(steps)
-        } else {
-            None
-        }
+        self.graph.get(step)?;
+        let mut steps = self.walk(&Ancestors)[usize::from(step)];
+        steps.remove(step);
+        Some(steps)
     }
 }

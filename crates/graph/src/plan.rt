@@ -1,3 +1,5 @@
+ghost use Rattle.std.specs.Prelude.{length};
+ghost use Rattle.graph.specs.Graphs.{sets_of};
 ghost use Rattle.graph.specs.Plans.{Due, Direct};
 
 use crate::graph::Graph;
@@ -7,6 +9,6 @@ use crate::graph::Graph;
 pub struct Plan {
     pub(crate) graph: Graph,
     pub(crate) deadline: u16,
-    ghost due: { Due graph.count deadline },
-    ghost direct: { Direct graph.predecessors },
+    ghost due: { Due (length graph.steps) deadline },
+    ghost direct: { Direct (sets_of graph.steps) },
 }

@@ -66,14 +66,6 @@ fn hide() -> Result<Plan, Refusal> {
     .finish()
 }
 
-fn set_of(steps: &[u8]) -> StepSet {
-    let mut set = StepSet::new();
-    for step in steps {
-        set.insert(*step);
-    }
-    set
-}
-
 #[test]
 fn hide_is_measured(rt: HostRuntime) -> Result<(), Fail> {
     let plan = hide()?;
@@ -81,7 +73,7 @@ fn hide_is_measured(rt: HostRuntime) -> Result<(), Fail> {
     assert_eq!(rt; plan.deadline(), 10);
     assert_eq!(rt; plan.time(3), Some(4));
     assert_eq!(rt; plan.time(6), None);
-    assert_eq!(rt; plan.predecessors(4), Some(set_of(&[1, 2])));
+    assert_eq!(rt; plan.predecessors(4), Some(StepSet::from([1, 2])));
     assert_eq!(rt; plan.predecessors(255), None);
     assert_eq!(rt; plan.volume(), 13);
     assert_eq!(rt; plan.length(), 7);
@@ -90,12 +82,12 @@ fn hide_is_measured(rt: HostRuntime) -> Result<(), Fail> {
     assert_eq!(rt; plan.length_at(4), Some(6));
     assert_eq!(rt; plan.length_at(5), Some(7));
     assert_eq!(rt; plan.length_at(6), None);
-    assert_eq!(rt; plan.ancestors(0), Some(set_of(&[])));
-    assert_eq!(rt; plan.ancestors(1), Some(set_of(&[0])));
-    assert_eq!(rt; plan.ancestors(2), Some(set_of(&[0])));
-    assert_eq!(rt; plan.ancestors(3), Some(set_of(&[0])));
-    assert_eq!(rt; plan.ancestors(4), Some(set_of(&[0, 1, 2])));
-    assert_eq!(rt; plan.ancestors(5), Some(set_of(&[0, 1, 2, 3, 4])));
+    assert_eq!(rt; plan.ancestors(0), Some(StepSet::from([])));
+    assert_eq!(rt; plan.ancestors(1), Some(StepSet::from([0])));
+    assert_eq!(rt; plan.ancestors(2), Some(StepSet::from([0])));
+    assert_eq!(rt; plan.ancestors(3), Some(StepSet::from([0])));
+    assert_eq!(rt; plan.ancestors(4), Some(StepSet::from([0, 1, 2])));
+    assert_eq!(rt; plan.ancestors(5), Some(StepSet::from([0, 1, 2, 3, 4])));
     assert_eq!(rt; plan.ancestors(6), None);
     Ok(())
 }
@@ -207,7 +199,7 @@ fn sixty_four_steps(rt: HostRuntime) -> Result<(), Fail> {
     let plan = chain.finish()?;
     assert_eq!(rt; plan.length(), 1_280_000);
     assert_eq!(rt; plan.volume(), 1_280_000);
-    assert_eq!(rt; plan.predecessors(63), Some(set_of(&[62])));
+    assert_eq!(rt; plan.predecessors(63), Some(StepSet::from([62])));
     let mut halves = draft_of(20_000, &[2; 64], &[])?;
     for from in 0..32 {
         for to in 32..64 {

@@ -1,8 +1,7 @@
 // What can be asked of a plan.
-ghost use Rattle.std.specs.Prelude.{◌≡◌, replicate, if◌then◌else◌, Some, None, ◌==◌, nat_lt};
+ghost use Rattle.std.specs.Prelude.{◌≡◌, [], if◌then◌else◌, Some, None, ◌==◌, nat_lt};
 ghost use Rattle.graph.specs.Asked.{steps_of, deadline_of, time_in};
-ghost use Rattle.graph.specs.Graphs.{set_before};
-ghost use Rattle.graph.specs.Sets.{none};
+ghost use Rattle.graph.specs.Graphs.{sets_of, set_before};
 
 use crate::graph::Graph;
 use crate::plan::Plan;
@@ -13,8 +12,7 @@ impl Plan {
     pub fn empty() -> Plan
         ensures count { steps_of result ≡ 0 }
         ensures deadline { deadline_of result ≡ 0 }
-        ensures times { result.graph.times ≡ replicate 64 0 }
-        ensures predecessors { result.graph.predecessors ≡ replicate 64 none }
+        ensures steps { result.graph.steps ≡ [] }
     {
         Plan {
             graph: Graph::empty(),
@@ -31,9 +29,10 @@ impl Plan {
     pub fn count(&self) -> u8
         ensures { result ≡ steps_of self.now }
     {
-        self.graph.count
+        self.graph.count()
     }
 
+    // The deadline: 0 for the empty plan, as the project's rules say.
     pub fn deadline(&self) -> u16
         ensures { result ≡ deadline_of self.now }
     {
@@ -44,21 +43,13 @@ impl Plan {
     pub fn time(&self, step: u8) -> Option<u16>
         ensures { result ≡ (if nat_lt step (steps_of self.now) then Some (time_in self.now step) else None) }
     {
-        if step < self.graph.count {
-            Some(self.graph.times[usize::from(step)])
-        } else {
-            None
-        }
+        self.graph.get(step).map(|step| step.time)
     }
 
     // The predecessors of a step, if the plan has it.
     pub fn predecessors(&self, step: u8) -> Option<StepSet>
-        ensures { result ≡ (if nat_lt step (steps_of self.now) then Some (set_before self.now.graph.predecessors step) else None) }
+        ensures { result ≡ (if nat_lt step (steps_of self.now) then Some (set_before (sets_of self.now.graph.steps) step) else None) }
     {
-        if step < self.graph.count {
-            Some(self.graph.predecessors[usize::from(step)])
-        } else {
-            None
-        }
+        self.graph.get(step).map(|step| step.predecessors)
     }
 }

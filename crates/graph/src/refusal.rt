@@ -18,7 +18,7 @@ pub enum Refusal {
 }
 
 impl Refusal {
-    // The number by which the refusal is known.
+    // The number by which the refusal is known; by cases, since one of them holds a value and so has no discriminant.
     pub fn number(self) -> u8
         ensures { result ≡ number_of self }
     {

@@ -1,7 +1,9 @@
 // A set of step numbers below 64.
-ghost use Rattle.std.specs.Prelude.{◌≡◌, ℕ, ◌^◌, ◌<◌, ◌≤◌, true, false, not, ◌&&◌, ◌||◌, length, if◌then◌else◌, Decides, MatchOption, ◌==◌, nat_lt};
+ghost use Rattle.std.specs.Prelude.{◌≡◌, ℕ, ◌^◌, ◌<◌, ◌≤◌, ◌↔◌, true, false, not, ◌&&◌, ◌||◌, length, if◌then◌else◌, IsTrue, MatchOption, ◌==◌, nat_lt};
 ghost use Rattle.graph.specs.Paths.{Among, Distinct};
 ghost use Rattle.graph.specs.Sets.{has, none, with_step, without_step, both, members, Least};
+
+use crate::graph::MOST_STEPS;
 
 // A bit for each step.
 #[derive(Clone, Copy, PartialEq, Eq, Debug)]
@@ -10,7 +12,7 @@ pub struct StepSet {
 }
 
 // As many steps as the number has bits.
-const STEPS: u8 = 64;
+const STEPS: u8 = MOST_STEPS as u8;
 
 // The bit of a step: none from 64 on, so that such a number is never in a set.
 fn bit(step: u8) -> u64
@@ -71,15 +73,28 @@ impl StepSet {
     pub fn len(self) -> u8
         ensures value { result ≡ length (members self) }
         ensures once { Distinct (members self) }
-        ensures all { (n : ℕ) → Decides (has self n) (Among n (members self)) }
+        ensures all { (n : ℕ) → (IsTrue (has self n) ↔ Among n (members self)) }
     {
         self.bits.count_ones() as u8
     }
 
     pub fn is_empty(self) -> bool
         ensures value { result ≡ (length (members self) == 0) }
-        ensures empty { Decides result ((n : ℕ) → has self n ≡ false) }
+        ensures empty { IsTrue result ↔ ((n : ℕ) → has self n ≡ false) }
     {
         self.bits == 0
+    }
+}
+
+// The numbers of an array that are below 64.
+impl<const N: usize> From<[u8; N]> for StepSet {
+    ghost from_gives = { λ numbers set. (n : ℕ) → (IsTrue (has set n) ↔ ((n < 64) × Among n numbers)) };
+
+    fn from(numbers: [u8; N]) -> StepSet {
+        let mut set = StepSet::new();
+        for number in numbers {
+            set.insert(number);
+        }
+        set
     }
 }

@@ -1,5 +1,5 @@
-ghost use Rattle.std.specs.Prelude.{◌≡◌, map, slice_index_or};
-ghost use Rattle.graph.specs.Graphs.{time_of, before};
+ghost use Rattle.std.specs.Prelude.{◌≡◌, map, length, slice_index_or};
+ghost use Rattle.graph.specs.Graphs.{times_of, sets_of, time_of, before};
 ghost use Rattle.graph.specs.Sets.{members};
 ghost use Rattle.graph.specs.Walks.{join_all, Walked};
 
@@ -15,10 +15,8 @@ fn gathered<M: Measure>(
 ) -> Option<M::Value>
     ensures { result ≡ join_all (M.Measure.join measure.now) (map (λ step. slice_index_or values.now step (M.Measure.start measure.now)) (members steps)) }
 {
-    let mut rest = steps;
     let mut sum = None;
-    while let Some(step) = rest.first() {
-        rest.remove(step);
+    for step in steps {
         let value = values[usize::from(step)];
         sum = match sum {
             None => Some(value),
@@ -31,15 +29,13 @@ fn gathered<M: Measure>(
 impl Graph {
     // The value of a measure at each step; where there is no step, the start.
     pub(crate) fn walk<M: Measure>(&self, measure: &M) -> [M::Value; MOST_STEPS]
-        ensures { Walked (M.Measure.start measure.now) (M.Measure.join measure.now) (M.Measure.carry measure.now) (time_of self.now.times) (before self.now.predecessors) self.now.count result }
+        ensures { Walked (M.Measure.start measure.now) (M.Measure.join measure.now) (M.Measure.carry measure.now) (time_of (times_of self.now.steps)) (before (sets_of self.now.steps)) (length self.now.steps) result }
     {
         let mut values = [measure.start(); MOST_STEPS];
-        for step in 0..self.count {
-            let at = usize::from(step);
-            let arriving = gathered(measure, &values, self.predecessors[at]).unwrap_or(
-                measure.start(),
-            );
-            values[at] = measure.carry(arriving, step, self.times[at]);
+        // Each value is written to its place, since later ones are gathered from it.
+        for (at, step) in self.steps.as_slice().iter().enumerate() {
+            let arriving = gathered(measure, &values, step.predecessors).unwrap_or(measure.start());
+            values[at] = measure.carry(arriving, at as u8, step.time);
         }
         values
     }

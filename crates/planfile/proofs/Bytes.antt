@@ -1,6 +1,7 @@
 -- Records and the bytes that they are laid out in.
-use Rattle.std.proofs.Common.{◌≡◌, ℕ, ◌+◌, ◌*◌, ◌/◌, ◌%◌, ◌<◌, ◌≤◌, true, false, ltb, List, [], ◌∷◌, ◌++◌, length, get_or, take, drop, sym, refl, ap, ◌∙◌, ap₂, arith}
-use Rattle.std.proofs.lemmas.List.{length-append, length-drop, length-take-le, take-append-drop, take_at, drop_at}
+use Rattle.std.proofs.Common.{◌≡◌, ℕ, ◌+◌, ◌-◌, ◌*◌, ◌/◌, ◌%◌, ◌<◌, ◌≤◌, true, false, ltb, List, [], ◌∷◌, ◌++◌, length, get_or, take, drop, sym, refl, ap, ◌∙◌, ap₂, arith}
+use Rattle.std.specs.List.{IsSplitAt}
+use Rattle.std.proofs.lemmas.List.{take_all, length-append, length-drop, length-take-le, take-append-drop, take_at, drop_at}
 use Rattle.std.proofs.lemmas.Bool.{both_ways, le-ltb, ltb-false, or_from, or_parts}
 use Rattle.planfile.specs.Records.{Entry, deadline, step, edge, block, hold_back, late, kind_of, body_of, encoded, number_at, front_kind, front_body, behind_front, entry_of}
 use Rattle.planfile.specs.Rules.{cut_short}
@@ -23,6 +24,11 @@ pub from_parts : (bytes body after : List ℕ) (kind : ℕ) → 4 ≤ length byt
 from_parts bytes body after kind enough low_length low_kind size is_kind rest =
     four_first bytes enough
     ∙ ap₂ ◌∷◌ (omega arith) (ap₂ ◌∷◌ (omega arith) (ap₂ ◌∷◌ (omega arith) (ap₂ ◌∷◌ (omega arith) rest)))
+
+-- the bytes after a header, put together again after they were split
+pub split_again : (bytes body after : List ℕ) (n : ℕ) → IsSplitAt (take (length bytes - 4) (drop 4 bytes)) n body after → drop 4 bytes ≡ body ++ after
+split_again bytes body after n parts =
+    sym (ap₂ ◌++◌ parts.1 parts.2 ∙ take-append-drop n (take (length bytes - 4) (drop 4 bytes)) ∙ take_all (length bytes - 4) (drop 4 bytes) (simp length-drop (omega arith)))
 
 -- a number that was laid out is read back
 two_read : (n : ℕ) → n % 256 + 256 * (n / 256) ≡ n

@@ -1,17 +1,19 @@
 -- From what the parts of the reader know to what it answers and leaves.
-use Rattle.std.proofs.Common.{◌≡◌, ℕ, ◌-◌, ◌≤◌, List, [], ◌++◌, length, take, drop, replicate, Ok, Err, Result, sym, ap, ◌∙◌, subst, ap₂, arith}
+use Rattle.std.proofs.Common.{◌≡◌, ℕ, ◌-◌, ◌<◌, ◌≤◌, List, [], ◌++◌, length, get_or, take, drop, replicate, Ok, Err, Result, sym, ap, ◌∙◌, subst, ap₂, arith}
 use borrow.Rule.Slice.PartMut.{put_mid}
 use Rattle.std.proofs.lemmas.List.{append-nil, length-drop, length-take-le, drop_all}
 use Rattle.cores.specs.declared.ladder.Block.{Block}
 use Rattle.planfile.specs.Cutting.{WholeOf, WholeRead}
-use Rattle.planfile.specs.Files.{FileLaw, LeavesPlan, answer_to, blocks_left, no_block, outcome}
+use Rattle.planfile.specs.Files.{BadRecord, LeavesPlan, answer_to, blocks_left, no_block, outcome}
 use Rattle.planfile.specs.Rules.{reading_of}
 use Rattle.planfile.specs.declared.cause.Fault.{Fault}
 use Rattle.planfile.specs.declared.whole.Whole.{Whole}
+use Rattle.planfile.proofs.Outcomes.{bad_outcome, bad_file}
 
-pub refused_whole : {places : ℕ} {file : List ℕ} (list : List Block) {bad : Fault} {answer : Result Whole Fault} → answer ≡ Err bad
-    → (outcome places file ≡ Err bad) × FileLaw places file → WholeRead places file list answer
-refused_whole {places} {file} list is known = subst (WholeRead places file list) (sym is) known
+-- a file with a bad record is refused there
+pub refused_whole : {places : ℕ} {file : List ℕ} (list : List Block) (bad : Fault) {answer : Result Whole Fault} → answer ≡ Err bad
+    → ((i : ℕ) → get_or file i 0 < 256) → BadRecord places file bad → WholeRead places file list answer
+refused_whole {places} {file} list bad is small at = subst (WholeRead places file list) (sym is) (bad_outcome places file small bad at, bad_file places file small bad at)
 
 -- a list whose places from one on were all made zero
 pub rest_zero : (list part : List Block) (n : ℕ) → n ≤ length list → part ≡ replicate (length (take (length list - n) (drop n list))) no_block

@@ -1,10 +1,10 @@
 -- What becomes of a file whose records are good.
-use Rattle.std.proofs.Common.{◌≡◌, ℕ, zero, suc, ◌<◌, Bool, true, false, List, [], ◌∷◌, length, get_or, take, is_some, Some, None, Ok, Err, Option, sym, refl, ap, ◌∙◌, subst, inl, inr, ⊎_elim, arith}
+use Rattle.std.proofs.Common.{◌≡◌, ℕ, ◌<◌, Bool, true, false, List, [], ◌∷◌, length, get_or, take, Some, None, Ok, Err, Option, sym, refl, ap, ◌∙◌, subst, inl, inr, ⊎_elim, arith}
 use Rattle.std.specs.Option.{option_map}
 use Rattle.std.specs.List.{slice_get}
 use Rattle.std.proofs.lemmas.List.{length-append, length-take-le, nil_from_length}
-use Rattle.std.proofs.lemmas.Bool.{both_ways, eqb-true, or_cases}
-use Rattle.cores.specs.declared.ladder.Block.{Block}
+use Rattle.std.proofs.lemmas.Option.{slice_get_cases}
+use Rattle.std.proofs.lemmas.Bool.{cond-false, eqb-true, or_cases}
 use Rattle.graph.specs.Drafts.{Content, Lacks, FinishLaw, finish_refusal, lacking, content}
 use Rattle.graph.specs.Implied.{FirstImpliedBy, NoneImpliedBy, first_implied}
 use Rattle.graph.specs.declared.refusal.Refusal.{Refusal}
@@ -14,7 +14,7 @@ use Rattle.planfile.specs.Files.{fault, of_kind, outcome, MadeOf, Unready, Accep
 use Rattle.planfile.specs.Records.{Entry, deadline, step, edge, block, hold_back, late, file_of}
 use Rattle.planfile.specs.Rules.{reading_of}
 use Rattle.planfile.specs.declared.cause.Cause.TheVariants.{Incomplete, ImpliedEdge}
-use Rattle.planfile.specs.declared.progress.Progress.{Progress}
+use Rattle.planfile.specs.declared.reader.Reader.{Reader}
 use Rattle.planfile.proofs.Outcomes.{accepted_outcome, accepted_file, refused_outcome, refused_file, missing_file, missing_outcome}
 
 -- there are as many edges as records of their kind
@@ -34,64 +34,56 @@ edges_count (hold_back cores from until ∷ earlier) = edges_count earlier
 edges_count (late ticks ∷ earlier) = edges_count earlier
 
 nth_there : {X : Type 0} (xs : List X) (n : ℕ) → n < length xs → slice_get xs n ≡ None → ⊥
-nth_there [] n under none = absurd (omega arith)
-nth_there (x ∷ xs) zero under none = both_ways true (ap is_some none) refl
-nth_there (x ∷ xs) (suc n) under none = nth_there xs n (omega arith) none
+nth_there xs n under none = ⊎_elim (λ there. cc (there.2, none)) (λ past. omega (arith, past.0, under)) (slice_get_cases xs n).1
 
 -- finishing is refused for an edge or for what is missing
 pub lacks : (held : Content) (why : Refusal) → finish_refusal held ≡ Some why → ((i : ℕ) → why ≡ refusal.ImpliedEdge i → ⊥) → Lacks held
 lacks held why is other = by (lacking held) refl where
   from_edges : (first : Option ℕ) → option_map (λ i. refusal.ImpliedEdge i) first ≡ Some why → ⊥
-  from_edges None none = both_ways false refl (ap is_some none)
-  from_edges (Some i) same = other i (sym (some_same same)) where
-    refusal_in : Option Refusal → Refusal
-    refusal_in None = why
-    refusal_in (Some found) = found
-
-    some_same : Some (refusal.ImpliedEdge i) ≡ Some why → refusal.ImpliedEdge i ≡ why
-    some_same found = ap refusal_in found
+  from_edges None none = cc
+  from_edges (Some i) same = other i (cc)
 
   by : (missing : Bool) → lacking held ≡ missing → Lacks held
   by true missing =
       ⊎_elim (λ none. inl (eqb-true _ 0 none)) (λ none. inr (nil_from_length _ (eqb-true _ 0 none))) (or_cases _ _ missing)
-  by false missing = absurd (from_edges (first_implied held.edges) (sym (ap (λ b. mathlib.Core.Bool.cond b (Some refusal.Incomplete) (option_map (λ i. refusal.ImpliedEdge i) (first_implied held.edges))) missing) ∙ is))
+  by false missing = absurd (from_edges (first_implied held.edges) (sym (cond-false _ _ _ missing) ∙ is))
 
-module _ (places : ℕ) (file : List ℕ) (small : (i : ℕ) → get_or file i 0 < 256) (entries : List Entry) (progress : Progress) (list : List Block)
-    (bytes : file ≡ file_of entries) (read : ReadTo places entries progress list) where
+module _ (places : ℕ) (file : List ℕ) (small : (i : ℕ) → get_or file i 0 < 256) (entries : List Entry) (reader : Reader)
+    (bytes : file ≡ file_of entries) (read : ReadTo places entries reader) where
   made : MadeOf places file entries
   made = record { bytes = bytes; kept = read.kept }
 
-  pub held_is : content progress.draft ≡ (reading_of entries).held
+  pub held_is : content reader.draft ≡ (reading_of entries).held
   held_is = ap (λ r. r.held) read.reading
 
   -- a list with no place filled has no block, and another has one
-  no_blocks : progress.filled ≡ 0 → (reading_of entries).blocks ≡ []
-  no_blocks none = sym (ap (λ r. r.blocks) read.reading) ∙ ap (λ n. take n list) none
+  no_blocks : reader.filled ≡ 0 → (reading_of entries).blocks ≡ []
+  no_blocks none = sym (ap (λ r. r.blocks) read.reading) ∙ ap (λ n. take n reader.blocks.now) none
 
-  some_blocks : (progress.filled ≡ 0 → ⊥) → (reading_of entries).blocks ≡ [] → ⊥
+  some_blocks : (reader.filled ≡ 0 → ⊥) → (reading_of entries).blocks ≡ [] → ⊥
   some_blocks some none =
-      some (omega (arith, length-take-le progress.filled list read.filled, ap length (ap (λ r. r.blocks) read.reading ∙ none)))
+      some (omega (arith, length-take-le reader.filled reader.blocks.now reader.few, ap length (ap (λ r. r.blocks) read.reading ∙ none)))
 
-  pub without_blocks : progress.filled ≡ 0 → (outcome places file ≡ Err (fault Incomplete (length file))) × FileLaw places file
+  pub without_blocks : reader.filled ≡ 0 → (outcome places file ≡ Err (fault Incomplete (length file))) × FileLaw places file
   without_blocks none = let missing = inr (no_blocks none) in (missing_outcome places file small entries made missing, missing_file places file small entries made missing)
 
-  module _ (some : progress.filled ≡ 0 → ⊥) (law : FinishLaw (content progress.draft)) where
+  module _ (some : reader.filled ≡ 0 → ⊥) (law : FinishLaw (content reader.draft)) where
     law_here : FinishLaw (reading_of entries).held
     law_here = subst FinishLaw held_is law
 
-    pub lacking_part : Lacks (content progress.draft) → (outcome places file ≡ Err (fault Incomplete (length file))) × FileLaw places file
+    pub lacking_part : Lacks (content reader.draft) → (outcome places file ≡ Err (fault Incomplete (length file))) × FileLaw places file
     lacking_part part = let missing = inl (subst Lacks held_is part) in (missing_outcome places file small entries made missing, missing_file places file small entries made missing)
 
-    ready : (Lacks (content progress.draft) → ⊥) → Unready (reading_of entries) → ⊥
+    ready : (Lacks (content reader.draft) → ⊥) → Unready (reading_of entries) → ⊥
     ready whole missing = ⊎_elim (λ part. whole (subst Lacks (sym held_is) part)) (some_blocks some) missing
 
-    pub all_good : finish_refusal (content progress.draft) ≡ None → (outcome places file ≡ Ok entries) × FileLaw places file
+    pub all_good : finish_refusal (content reader.draft) ≡ None → (outcome places file ≡ Ok entries) × FileLaw places file
     all_good none =
         let told = law.none.0 none in
         let accepted : Accepted places file entries = record { made = made; ready = ready told.0; direct = subst (λ h. NoneImpliedBy h.edges) held_is told.1 } in
         (accepted_outcome places file small entries made law_here entries accepted, accepted_file places file small entries made law_here accepted)
 
-    module _ (i : ℕ) (is : finish_refusal (content progress.draft) ≡ Some (refusal.ImpliedEdge i)) where
+    module _ (i : ℕ) (is : finish_refusal (content reader.draft) ≡ Some (refusal.ImpliedEdge i)) where
       first : FirstImpliedBy (reading_of entries).held.edges i
       first = subst (λ h. FirstImpliedBy h.edges i) held_is ((law.implied i).0 is).1
 

@@ -1,6 +1,5 @@
 pub mod Bytes
 pub mod Bodies
-pub mod Printable
 pub mod Entering
 pub mod Runs
 pub mod Outcomes

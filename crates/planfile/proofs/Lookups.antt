@@ -1,11 +1,18 @@
 -- Finding a record by its kind, among those of a file.
-use Rattle.std.proofs.Common.{◌≡◌, ℕ, zero, suc, ◌+◌, ◌-◌, ◌≤◌, Bool, true, false, cond, eqb, List, [], ◌∷◌, ◌++◌, length, Some, None, sym, refl, ap, ◌∙◌, ap₂, arith}
+use Rattle.std.proofs.Common.{◌≡◌, ℕ, ◌+◌, ◌-◌, ◌≤◌, Bool, true, false, ◌==◌, if◌then◌else◌, List, [], ◌∷◌, ◌++◌, length, Some, None, Ok, Err, Result, subst, inl, inr, sym, refl, ap, ◌∙◌, ap₂, arith}
 use Rattle.std.specs.List.{slice_get}
+use Rattle.std.specs.Result.{result_ok}
 use Rattle.std.proofs.lemmas.List.{append-nil, append_assoc, length-append}
+use Rattle.std.proofs.lemmas.Option.{slice_get_past}
 use Rattle.std.proofs.lemmas.Bool.{cond-true, cond-false, eq-eqb, ne_eqb, both_ways}
+use Rattle.planfile.specs.Cutting.{BadFront, GivesFault, GivesRecord, NextRecord}
 use Rattle.planfile.specs.Files.{of_kind}
-use Rattle.planfile.specs.Records.{Entry, kind_of, body_of, encoded, file_of, front_kind, front_body, behind_front}
-use Rattle.planfile.specs.Rules.{cut_short}
+use Rattle.planfile.specs.Kinds.{kind_number}
+use Rattle.planfile.specs.Records.{Entry, deadline, step, edge, block, hold_back, late, kind_of, body_of, encoded, file_of, front_kind, front_body, behind_front}
+use Rattle.planfile.specs.Rules.{cut_short, unknown}
+use Rattle.planfile.specs.declared.cause.Fault.{Fault}
+use Rattle.planfile.specs.declared.record.Record.{Record}
+use Rattle.planfile.specs.declared.records.Records.{Records}
 use Rattle.planfile.proofs.Bytes.{kind_read, body_read, after_read, whole_read, encoded_size}
 
 -- a list with something in it has a last
@@ -28,15 +35,15 @@ file_append (entry ∷ later) earlier =
 -- the records of a kind: more come behind
 more_of_kind : (kind : ℕ) (later earlier : List Entry) → (more : List (ℕ × List ℕ)) × (of_kind kind (later ++ earlier) ≡ of_kind kind earlier ++ more)
 more_of_kind kind [] earlier = ([], sym (append-nil (of_kind kind earlier)))
-more_of_kind kind (entry ∷ later) earlier = by (eqb (kind_of entry) kind) (more_of_kind kind later earlier) where
+more_of_kind kind (entry ∷ later) earlier = by (kind_of entry == kind) (more_of_kind kind later earlier) where
   here : List (ℕ × List ℕ)
   here = (length (file_of (later ++ earlier)), body_of entry) ∷ []
 
   by : (same : Bool) → (more : List (ℕ × List ℕ)) × (of_kind kind (later ++ earlier) ≡ of_kind kind earlier ++ more)
-      → (more : List (ℕ × List ℕ)) × (cond same (of_kind kind (later ++ earlier) ++ ((length (file_of (later ++ earlier)), body_of entry) ∷ [])) (of_kind kind (later ++ earlier)) ≡ of_kind kind earlier ++ more)
+      → (more : List (ℕ × List ℕ)) × ((if same then of_kind kind (later ++ earlier) ++ here else of_kind kind (later ++ earlier)) ≡ of_kind kind earlier ++ more)
   by true (more, is) = (
-    more ++ ((length (file_of (later ++ earlier)), body_of entry) ∷ []),
-    ap (λ l. l ++ ((length (file_of (later ++ earlier)), body_of entry) ∷ [])) is ∙ append_assoc (of_kind kind earlier) more ((length (file_of (later ++ earlier)), body_of entry) ∷ []),
+    more ++ here,
+    ap (λ l. l ++ here) is ∙ append_assoc (of_kind kind earlier) more here,
   )
   by false (more, is) = (more, is)
 
@@ -44,11 +51,6 @@ more_of_kind kind (entry ∷ later) earlier = by (eqb (kind_of entry) kind) (mor
 pub nth_here : {X : Type 0} (front : List X) (x : X) (back : List X) → slice_get ((front ++ (x ∷ [])) ++ back) (length front) ≡ Some x
 nth_here [] x back = refl
 nth_here (y ∷ ys) x back = nth_here ys x back
-
-nth_past : {X : Type 0} (xs : List X) (n : ℕ) → length xs ≤ n → slice_get xs n ≡ None
-nth_past [] n past = refl
-nth_past (x ∷ xs) zero past = absurd (omega arith)
-nth_past (x ∷ xs) (suc n) past = nth_past xs n (omega arith)
 
 -- some records of a file were passed, the rest is made of the others, and so many of the kind are still to be passed
 pub record Onward (kind before : ℕ) (entries : List Entry) (rest : List ℕ) (left : ℕ) : Type 0 where
@@ -58,108 +60,146 @@ pub record Onward (kind before : ℕ) (entries : List Entry) (rest : List ℕ) (
   pub bytes : rest ≡ file_of later
   pub count : length (of_kind kind earlier) + left ≡ before
 
--- the next record
-pub record Next (kind before : ℕ) (entries : List Entry) (size found : ℕ) (body after : List ℕ) (left : ℕ) : Type 0 where
+-- bytes that begin with a record of a file, behind others of its records
+record Front (entries earlier : List Entry) (rest : List ℕ) : Type 0 where
   pub later : List Entry
   pub entry : Entry
-  pub earlier : List Entry
   pub parts : entries ≡ later ++ (entry ∷ earlier)
-  pub bytes : after ≡ file_of later
-  pub is_kind : kind_of entry ≡ found
-  pub is_body : body_of entry ≡ body
-  pub count : length (of_kind kind earlier) + left ≡ before
+  pub laid : rest ≡ encoded (kind_of entry) (body_of entry) ++ file_of later
 
 pub from_start : (kind before : ℕ) (entries : List Entry) (file : List ℕ) → file ≡ file_of entries → Onward kind before entries file before
 from_start kind before entries file is =
     record { later = entries; earlier = []; parts = sym (append-nil entries); bytes = is; count = omega arith }
 
-module _ (kind before : ℕ) (entries : List Entry) (rest : List ℕ) (left : ℕ) (on : Onward kind before entries rest left) where
+-- what comes next, by whether it is a record
+pub given_read : (here after : Records) (next : Result (ℕ × Record) Fault) (found : ℕ × Record) → next ≡ Ok found
+    → NextRecord here (Some next) after → GivesRecord here found.0 found.1 after
+given_read here after next found is went = subst (λ n. NextRecord here (Some n) after) is went
+
+pub given_record : (here after : Records) (next : Result (ℕ × Record) Fault) (found : ℕ × Record) → result_ok next ≡ Some found
+    → NextRecord here (Some next) after → GivesRecord here found.0 found.1 after
+given_record here after (Ok given) found is went = given_read here after (Ok given) found (cc) went
+given_record here after (Err bad) found is went = absurd (cc)
+
+pub given_fault : (here after : Records) (next : Result (ℕ × Record) Fault) (bad : Fault) → next ≡ Err bad
+    → NextRecord here (Some next) after → GivesFault here bad after
+given_fault here after next bad is went = subst (λ n. NextRecord here (Some n) after) is went
+
+kind_known : (entry : Entry) → unknown (kind_of entry) ≡ false
+kind_known (deadline ticks) = refl
+kind_known (step time label) = refl
+kind_known (edge from to) = refl
+kind_known (block cores ticks) = refl
+kind_known (hold_back cores from until) = refl
+kind_known (late ticks) = refl
+
+module _ {kind before : ℕ} {entries : List Entry} {rest : List ℕ} {left : ℕ} (on : Onward kind before entries rest left) where
   -- at the end there are no more
-  pub past_end : length rest ≡ 0 → slice_get (of_kind kind entries) before ≡ None
-  past_end none = nth_past (of_kind kind entries) before (omega (arith, ap (λ l. length (of_kind kind l)) (on.parts ∙ none_later on.later on.bytes), on.count)) where
+  pub past_end : rest ≡ [] → slice_get (of_kind kind entries) before ≡ None
+  past_end none = slice_get_past (of_kind kind entries) before (omega (arith, ap (λ l. length (of_kind kind l)) (on.parts ∙ none_later on.later on.bytes), on.count)) where
     none_later : (later : List Entry) → rest ≡ file_of later → later ++ on.earlier ≡ on.earlier
     none_later [] is = refl
     none_later (entry ∷ later) is =
-        absurd (omega (arith, ap length is, length-append (file_of later) (encoded (kind_of entry) (body_of entry)), encoded_size (kind_of entry) (body_of entry) []))
+        absurd (omega (arith, ap length none, ap length is, length-append (file_of later) (encoded (kind_of entry) (body_of entry)), encoded_size (kind_of entry) (body_of entry) []))
 
   -- before it, the rest begins with a record
-  pub next : (found : ℕ) (body after : List ℕ) → rest ≡ encoded found body ++ after → Next kind before entries (length rest) found body after left
-  next found body after cut = by on.later on.parts on.bytes where
-    by : (later : List Entry) → entries ≡ later ++ on.earlier → rest ≡ file_of later → Next kind before entries (length rest) found body after left
-    by [] parts bytes = absurd (omega (arith, ap length (sym cut ∙ bytes), encoded_size found body after))
+  front : 1 ≤ length rest → Front entries on.earlier rest
+  front some = by on.later on.parts on.bytes where
+    by : (later : List Entry) → entries ≡ later ++ on.earlier → rest ≡ file_of later → Front entries on.earlier rest
+    by [] parts bytes = absurd (omega (arith, some, ap length bytes))
     by (newest ∷ others) parts bytes =
         let ends = last_of newest others in
-        let entry = ends.last in
-        let front = ends.front in
-        let laid : rest ≡ encoded (kind_of entry) (body_of entry) ++ file_of front = bytes ∙ ap file_of ends.is ∙ file_append front (entry ∷ []) in
-        let both : encoded (kind_of entry) (body_of entry) ++ file_of front ≡ encoded found body ++ after = sym laid ∙ cut in
         record {
-          later = front;
-          entry = entry;
-          earlier = on.earlier;
-          parts = parts ∙ ap (λ l. l ++ on.earlier) ends.is ∙ append_assoc front (entry ∷ []) on.earlier;
-          bytes = sym (sym (after_read (kind_of entry) (body_of entry) (file_of front)) ∙ ap behind_front both ∙ after_read found body after);
-          is_kind = sym (kind_read (kind_of entry) (body_of entry) (file_of front)) ∙ ap front_kind both ∙ kind_read found body after;
-          is_body = sym (body_read (kind_of entry) (body_of entry) (file_of front)) ∙ ap front_body both ∙ body_read found body after;
-          count = on.count;
+          later = ends.front;
+          entry = ends.last;
+          parts = parts ∙ ap (λ l. l ++ on.earlier) ends.is ∙ append_assoc ends.front (ends.last ∷ []) on.earlier;
+          laid = bytes ∙ ap file_of ends.is ∙ file_append ends.front (ends.last ∷ []);
         }
 
-  -- which is not cut short
-  pub never_short : 1 ≤ length rest → cut_short rest ≡ true → ⊥
-  never_short some short = by on.later on.bytes where
-    by : (later : List Entry) → rest ≡ file_of later → ⊥
-    by [] bytes = absurd (omega (arith, ap length bytes))
-    by (newest ∷ others) bytes =
-        let ends = last_of newest others in
-        let entry = ends.last in
-        let laid : rest ≡ encoded (kind_of entry) (body_of entry) ++ file_of ends.front = bytes ∙ ap file_of ends.is ∙ file_append ends.front (entry ∷ []) in
-        both_ways (cut_short rest) (ap cut_short laid ∙ whole_read (kind_of entry) (body_of entry) (file_of ends.front)) short
+  -- so it is neither cut short nor of an unknown kind
+  never_bad : (place : ℕ) (bad : Fault) → 1 ≤ length rest → BadFront rest place bad → ⊥
+  never_bad place bad some (inl (short, is)) =
+      let first = front some in
+      both_ways (cut_short rest) (ap cut_short first.laid ∙ whole_read (kind_of first.entry) (body_of first.entry) (file_of first.later)) short
+  never_bad place bad some (inr ((found, body, after, laid, none), is)) =
+      let first = front some in
+      both_ways (unknown found)
+      (ap unknown (sym (kind_read found body after) ∙ ap front_kind (sym laid ∙ first.laid) ∙ kind_read (kind_of first.entry) (body_of first.entry) (file_of first.later)) ∙ kind_known first.entry)
+      none
 
-module _ (kind before : ℕ) (entries : List Entry) (size found : ℕ) (body after : List ℕ) (left : ℕ) (one : Next kind before entries size found body after left) where
+-- a file of records has no fault
+pub no_fault : {kind before : ℕ} {entries : List Entry} {left : ℕ} (here after : Records) → Onward kind before entries here.rest.now left
+    → (found : Result (ℕ × Record) Fault) → result_ok found ≡ None → NextRecord here (Some found) after → ⊥
+no_fault here after on (Ok found) none went = absurd (cc)
+no_fault here after on (Err bad) none went = never_bad on _ bad went.some went.front
+
+module _ {kind before : ℕ} {entries : List Entry} {here : Records} {left : ℕ} (on : Onward kind before entries here.rest.now left)
+    {place : ℕ} {found : Record} {after : Records} (given : GivesRecord here place found after) where
+  first : Front entries on.earlier here.rest.now
+  first = front on (omega (arith, ap length given.laid, encoded_size (kind_number found.kind) found.body.now after.rest.now))
+
+  -- the record that is given is the next of the file
+  both : encoded (kind_of first.entry) (body_of first.entry) ++ file_of first.later ≡ encoded (kind_number found.kind) found.body.now ++ after.rest.now
+  both = sym first.laid ∙ given.laid
+
+  is_kind : kind_of first.entry ≡ kind_number found.kind
+  is_kind = sym (kind_read (kind_of first.entry) (body_of first.entry) (file_of first.later)) ∙ ap front_kind both ∙ kind_read (kind_number found.kind) found.body.now after.rest.now
+
+  is_body : body_of first.entry ≡ found.body.now
+  is_body = sym (body_read (kind_of first.entry) (body_of first.entry) (file_of first.later)) ∙ ap front_body both ∙ body_read (kind_number found.kind) found.body.now after.rest.now
+
+  is_after : after.rest.now ≡ file_of first.later
+  is_after = sym (after_read (kind_number found.kind) found.body.now after.rest.now) ∙ ap behind_front (sym both) ∙ after_read (kind_of first.entry) (body_of first.entry) (file_of first.later)
+
   -- it is of another kind
-  pub pass_other : (found ≡ kind → ⊥) → Onward kind before entries after left
-  pass_other other = record {
-    later = one.later;
-    earlier = one.entry ∷ one.earlier;
-    parts = one.parts;
-    bytes = one.bytes;
-    count = ap (λ l. length l + left) (cond-false _ _ _ (ne_eqb (kind_of one.entry) kind (λ same. other (sym one.is_kind ∙ same)))) ∙ one.count;
+  pub passed_other : (kind_number found.kind ≡ kind → ⊥) → Onward kind before entries after.rest.now left
+  passed_other other = record {
+    later = first.later;
+    earlier = first.entry ∷ on.earlier;
+    parts = first.parts;
+    bytes = is_after;
+    count = ap (λ l. length l + left) (cond-false _ _ _ (ne_eqb (kind_of first.entry) kind (λ same. other (sym is_kind ∙ same)))) ∙ on.count;
   }
 
-  with_it : found ≡ kind → of_kind kind (one.entry ∷ one.earlier) ≡ of_kind kind one.earlier ++ ((length (file_of one.earlier), body_of one.entry) ∷ [])
-  with_it same = cond-true _ _ _ (eq-eqb (kind_of one.entry) kind (one.is_kind ∙ same))
+  with_it : kind_number found.kind ≡ kind → of_kind kind (first.entry ∷ on.earlier) ≡ of_kind kind on.earlier ++ ((length (file_of on.earlier), body_of first.entry) ∷ [])
+  with_it same = cond-true _ _ _ (eq-eqb (kind_of first.entry) kind (is_kind ∙ same))
 
   -- it is of the kind, and not the last to be passed
-  pub pass_one : found ≡ kind → 1 ≤ left → Onward kind before entries after (left - 1)
-  pass_one same some = record {
-    later = one.later;
-    earlier = one.entry ∷ one.earlier;
-    parts = one.parts;
-    bytes = one.bytes;
-    count = omega (arith, ap length (with_it same), length-append (of_kind kind one.earlier) ((length (file_of one.earlier), body_of one.entry) ∷ []), one.count);
+  pub passed_one : kind_number found.kind ≡ kind → 1 ≤ left → Onward kind before entries after.rest.now (left - 1)
+  passed_one same some = record {
+    later = first.later;
+    earlier = first.entry ∷ on.earlier;
+    parts = first.parts;
+    bytes = is_after;
+    count = omega (arith, ap length (with_it same), length-append (of_kind kind on.earlier) ((length (file_of on.earlier), body_of first.entry) ∷ []), on.count, some);
   }
 
   -- or it is the one
-  pub the_one : found ≡ kind → left ≡ 0 → slice_get (of_kind kind entries) before ≡ Some (length (file_of one.earlier), body)
-  the_one same none =
-      let more = more_of_kind kind one.later (one.entry ∷ one.earlier) in
-      let place : before ≡ length (of_kind kind one.earlier) = omega (arith, one.count) in
-      ap₂ slice_get (ap (of_kind kind) one.parts ∙ more.1 ∙ ap (λ l. l ++ more.0) (with_it same)) place
-      ∙ nth_here (of_kind kind one.earlier) (length (file_of one.earlier), body_of one.entry) more.0
-      ∙ ap (λ b. Some (length (file_of one.earlier), b)) one.is_body
-
-  pub the_place : (file : List ℕ) → file ≡ file_of entries → size ≡ length (encoded found body ++ after) → length file - size ≡ length (file_of one.earlier)
-  the_place file is whole =
-      let split : file ≡ (file_of one.earlier ++ encoded (kind_of one.entry) (body_of one.entry)) ++ file_of one.later =
-      is ∙ ap file_of one.parts ∙ file_append one.later (one.entry ∷ one.earlier) in
+  its_place : here.file.now ≡ file_of entries → place ≡ length (file_of on.earlier)
+  its_place is =
+      let split : here.file.now ≡ (file_of on.earlier ++ encoded (kind_of first.entry) (body_of first.entry)) ++ file_of first.later =
+      is ∙ ap file_of first.parts ∙ file_append first.later (first.entry ∷ on.earlier) in
       omega (
         arith,
+        given.at,
         ap length split,
-        length-append (file_of one.earlier ++ encoded (kind_of one.entry) (body_of one.entry)) (file_of one.later),
-        length-append (file_of one.earlier) (encoded (kind_of one.entry) (body_of one.entry)),
-        encoded_size (kind_of one.entry) (body_of one.entry) [],
-        encoded_size found body after,
-        ap length one.is_body,
-        ap length one.bytes,
-        whole,
+        length-append (file_of on.earlier ++ encoded (kind_of first.entry) (body_of first.entry)) (file_of first.later),
+        length-append (file_of on.earlier) (encoded (kind_of first.entry) (body_of first.entry)),
+        encoded_size (kind_of first.entry) (body_of first.entry) [],
+        encoded_size (kind_of first.entry) (body_of first.entry) (file_of first.later),
+        ap length first.laid,
       )
+
+  pub this_one : here.file.now ≡ file_of entries → kind_number found.kind ≡ kind → left ≡ 0 → slice_get (of_kind kind entries) before ≡ Some (place, found.body.now)
+  this_one is same none =
+      let more = more_of_kind kind first.later (first.entry ∷ on.earlier) in
+      let at : before ≡ length (of_kind kind on.earlier) = omega (arith, on.count, none) in
+      ap₂ slice_get (ap (of_kind kind) first.parts ∙ more.1 ∙ ap (λ l. l ++ more.0) (with_it same)) at
+      ∙ nth_here (of_kind kind on.earlier) (length (file_of on.earlier), body_of first.entry) more.0
+      ∙ ap₂ (λ p b. Some (p, b)) (sym (its_place is)) is_body
+
+-- a record that was found is in the file
+pub within_file : {here after : Records} {place : ℕ} {found : Record} → GivesRecord here place found after → length here.rest.now ≤ length here.file.now
+    → place + 4 + length found.body.now ≤ length here.file.now
+within_file {here} {after} {place} {found} given within =
+    omega (arith, within, given.at, ap length given.laid, encoded_size (kind_number found.kind) found.body.now after.rest.now)

@@ -1,15 +1,20 @@
 -- The labels of steps among the records of a file.
-use Rattle.std.proofs.Common.{◌≡◌, ℕ, zero, suc, ◌+◌, ◌≤◌, true, false, ◌⊎◌, List, [], ◌∷◌, ◌++◌, map, length, take, drop, is_some, is_err, Some, None, Ok, Err, Option, Result, sym, refl, ap, ◌∙◌, subst, ap₂, inl, inr, ⊎_elim, arith}
+use Rattle.std.proofs.Common.{All, ◌≡◌, ℕ, zero, suc, ◌+◌, ◌<◌, ◌≤◌, false, ◌⊎◌, List, [], ◌∷◌, ◌++◌, map, length, take, drop, is_some, Some, None, Ok, Err, Option, Result, sym, refl, ap, ◌∙◌, subst, ap₂, inl, inr, ⊎_elim, arith}
 use Rattle.std.specs.Option.{option_map}
-use Rattle.std.specs.List.{slice_get, AllByRecursion as All}
-use Rattle.std.proofs.ByRecursion.{All-append}
+use Rattle.std.specs.List.{slice_get}
+use Rattle.std.specs.Result.{result_ok}
+use Rattle.std.proofs.lemmas.List.Elements.{All-nil, All-cons, All-append, All-push}
+use Rattle.std.proofs.lemmas.Option.{slice_get_cases}
 use Rattle.std.proofs.lemmas.List.{append-nil, append_assoc, length-append, map-append, take_at, drop_at, drop-drop}
 use Rattle.std.proofs.lemmas.Bool.{both_ways}
+use Rattle.planfile.specs.Cutting.{Found}
 use Rattle.planfile.specs.Files.{FileLaw, answer_to, of_kind, outcome}
 use Rattle.planfile.specs.Labels.{LabelLaw, LabelOf, label_in, labels_in, label_by, label_of}
 use Rattle.planfile.specs.Records.{Entry, deadline, step, edge, block, hold_back, late, kind_of, body_of, two, encoded, file_of}
 use Rattle.planfile.specs.Rules.{reading_of}
 use Rattle.planfile.specs.declared.cause.Fault.{Fault}
+use Rattle.planfile.specs.declared.layers.Layers.{Layers}
+use Rattle.planfile.specs.declared.record.Record.{Record}
 use Rattle.planfile.proofs.Lookups.{file_append, nth_here}
 
 -- a label in its record: behind the header and the time
@@ -32,23 +37,16 @@ nth_map f [] n = refl
 nth_map f (x ∷ xs) zero = refl
 nth_map f (x ∷ xs) (suc n) = nth_map f xs n
 
-abbrev value_of : {X : Type 0} → Option X → X → X
-value_of None other = other
-value_of (Some x) other = x
-
-some_same : {X : Type 0} {x y : X} → Some x ≡ Some y → x ≡ y
-some_same {x = x} is = ap (λ o. value_of o x) is
-
+-- what holds of each element holds of the one at a place
 all_nth : {X : Type 0} (P : X → Type 0) (xs : List X) (n : ℕ) (x : X) → All P xs → slice_get xs n ≡ Some x → P x
-all_nth P [] n x all is = absurd (both_ways false refl (ap is_some is))
-all_nth P (y ∷ ys) zero x all is = subst P (some_same is) all.0
-all_nth P (y ∷ ys) (suc n) x all is = all_nth P ys n x all.1 is
+all_nth P xs n x all is =
+    ⊎_elim (λ there. subst P (cc (there.3, there.2, is)) (all n there.0 there.1)) (λ past. absurd (cc (past.1, is))) (slice_get_cases xs n).1
 
 -- a step's body has its time
 timed : (entries : List Entry) → All (λ found. 2 ≤ length found.1) (of_kind 2 entries)
-timed [] = tt
+timed [] = All-nil _
 timed (deadline ticks ∷ earlier) = timed earlier
-timed (step time label ∷ earlier) = All-append _ (of_kind 2 earlier) ((length (file_of earlier), two time ++ label) ∷ []) (timed earlier) (omega arith, tt)
+timed (step time label ∷ earlier) = All-push (λ found. 2 ≤ length found.1) (of_kind 2 earlier) (length (file_of earlier), two time ++ label) (timed earlier) (omega arith)
 timed (edge from to ∷ earlier) = timed earlier
 timed (block cores ticks ∷ earlier) = timed earlier
 timed (hold_back cores from until ∷ earlier) = timed earlier
@@ -58,36 +56,36 @@ timed (late ticks ∷ earlier) = timed earlier
 abbrev Stands : List ℕ → ℕ × List ℕ → Type 0
 Stands file (place, label) = take (length label) (drop place file) ≡ label
 
+-- behind what was read before
+abbrev StandsIn : List Entry → List ℕ → Entry → ℕ × List ℕ → Type 0
+StandsIn earlier more one = Stands (file_of earlier ++ (encoded (kind_of one) (body_of one) ++ more))
+
 stand : (entries : List Entry) (more : List ℕ) → All (Stands (file_of entries ++ more)) (labels_in entries)
-stand [] more = tt
+stand [] more = All-nil _
 stand (entry ∷ earlier) more =
     let record_bytes = encoded (kind_of entry) (body_of entry) in
     subst (λ file. All (Stands file) (labels_in (entry ∷ earlier))) (sym (append_assoc (file_of earlier) record_bytes more))
-    (All-append _ (labels_in earlier) (label_in (length (file_of earlier)) entry) (stand earlier (record_bytes ++ more)) (here entry)) where
-      here : (one : Entry) → All (Stands (file_of earlier ++ (encoded (kind_of one) (body_of one) ++ more))) (label_in (length (file_of earlier)) one)
-      here (deadline ticks) = tt
+    (All-append (StandsIn earlier more entry) (labels_in earlier) (label_in (length (file_of earlier)) entry) (stand earlier (record_bytes ++ more)) (here entry)) where
+      here : (one : Entry) → All (StandsIn earlier more one) (label_in (length (file_of earlier)) one)
+      here (deadline ticks) = All-nil (StandsIn earlier more (deadline ticks))
       here (step time label) =
           let bytes = encoded 2 (two time ++ label) ++ more in
           let reached : drop (length (file_of earlier) + 6) (file_of earlier ++ bytes) ≡ label ++ more =
           sym (drop-drop 6 (length (file_of earlier)) (file_of earlier ++ bytes)) ∙ ap (drop 6) (drop_at (file_of earlier) bytes (length (file_of earlier)) refl) in
-          (ap (take (length label)) reached ∙ take_at label more (length label) refl, tt)
-      here (edge from to) = tt
-      here (block cores ticks) = tt
-      here (hold_back cores from until) = tt
-      here (late ticks) = tt
+          All-cons (StandsIn earlier more (step time label)) (length (file_of earlier) + 6, label) [] (ap (take (length label)) reached ∙ take_at label more (length label) refl) (All-nil (StandsIn earlier more (step time label)))
+      here (edge from to) = All-nil (StandsIn earlier more (edge from to))
+      here (block cores ticks) = All-nil (StandsIn earlier more (block cores ticks))
+      here (hold_back cores from until) = All-nil (StandsIn earlier more (hold_back cores from until))
+      here (late ticks) = All-nil (StandsIn earlier more (late ticks))
 
 module _ (file : List ℕ) (number : ℕ) where
   -- by what became of the file
-  pub none_refused : (bad : Fault) → outcome 64 file ≡ Err bad → label_of file number ≡ None
-  unfolding label_of
-  none_refused bad is = ap (λ o. label_by o number) is
-
   module _ (entries : List Entry) (is : outcome 64 file ≡ Ok entries) where
-    pub label_found : label_of file number ≡ option_map behind_time (slice_get (of_kind 2 entries) number)
+    label_found : label_of file number ≡ option_map behind_time (slice_get (of_kind 2 entries) number)
     unfolding label_of
     label_found = ap (λ o. label_by o number) is ∙ ap (λ l. slice_get l number) (labels_by_kind entries) ∙ nth_map behind_time (of_kind 2 entries) number
 
-    pub long_enough : (place : ℕ) (body : List ℕ) → slice_get (of_kind 2 entries) number ≡ Some (place, body) → 2 ≤ length body
+    long_enough : (place : ℕ) (body : List ℕ) → slice_get (of_kind 2 entries) number ≡ Some (place, body) → 2 ≤ length body
     long_enough place body found = all_nth (λ f. 2 ≤ length f.1) (of_kind 2 entries) number (place, body) (timed entries) found
 
 -- there are as many labels as steps
@@ -116,13 +114,13 @@ pub record Labelled (entries : List Entry) (number place : ℕ) (label : List �
   pub begins : place ≡ length (file_of earlier) + 6
 
 nth_append : {X : Type 0} (xs : List X) (y : X) (n : ℕ) (x : X) → slice_get (xs ++ (y ∷ [])) n ≡ Some x → (slice_get xs n ≡ Some x) ⊎ ((n ≡ length xs) × (y ≡ x))
-nth_append [] y zero x is = inr (refl, some_same is)
-nth_append [] y (suc n) x is = absurd (both_ways false refl (ap is_some is))
+nth_append [] y zero x is = inr (refl, cc is)
+nth_append [] y (suc n) x is = absurd (cc)
 nth_append (z ∷ xs) y zero x is = inl is
 nth_append (z ∷ xs) y (suc n) x is = ⊎_elim inl (λ last. inr (ap suc last.0, last.1)) (nth_append xs y n x is)
 
 found_in : (entries : List Entry) (number place : ℕ) (label : List ℕ) → slice_get (labels_in entries) number ≡ Some (place, label) → Labelled entries number place label
-found_in [] number place label is = absurd (both_ways false refl (ap is_some is))
+found_in [] number place label is = absurd (cc)
 found_in (entry ∷ earlier) number place label is = by entry is (found_in earlier number place label) where
   further : (one : Entry) → Labelled earlier number place label → Labelled (one ∷ earlier) number place label
   further one found = record {
@@ -222,14 +220,35 @@ module _ (file : List ℕ) (number : ℕ) (law : FileLaw 64 file) where
           begins = found.begins;
         })
 
--- what the answer of the reader tells of the outcome
-abbrev pub Refusing : Result (List Entry) Fault → Type 0
-Refusing o = (bad : Fault) × (o ≡ Err bad)
+-- what a file has as a step's label, by what the reader answers and the step's record that was found
+module _ (file : List ℕ) (number : ℕ) (law : FileLaw 64 file) (answer : Result Layers Fault) (is : answer ≡ answer_to (outcome 64 file)) where
+  pub none_refused : result_ok answer ≡ None → label_of file number ≡ None
+  unfolding label_of
+  none_refused none = by (outcome 64 file) is where
+    by : (o : Result (List Entry) Fault) → answer ≡ answer_to o → label_by o number ≡ None
+    by (Ok entries) taken = absurd (cc (sym none ∙ ap result_ok taken))
+    by (Err bad) taken = refl
 
-pub refusing : (o : Result (List Entry) Fault) → is_err (answer_to o) ≡ true → Refusing o
-refusing (Ok entries) is = absurd (both_ways false refl is)
-refusing (Err bad) is = (bad, refl)
+  module _ (layers : Layers) (some : result_ok answer ≡ Some layers) (found : Option (ℕ × Record))
+      (stands : (entries : List Entry) → file ≡ file_of entries → Found (slice_get (of_kind 2 entries) number) found) where
+    accepted : (entries : List Entry) × (outcome 64 file ≡ Ok entries)
+    accepted = by (outcome 64 file) refl where
+      by : (o : Result (List Entry) Fault) → outcome 64 file ≡ o → (entries : List Entry) × (outcome 64 file ≡ Ok entries)
+      by (Ok entries) taken = (entries, taken)
+      by (Err bad) taken = absurd (cc (sym some ∙ ap result_ok (is ∙ ap answer_to taken)))
 
-pub accepting : (o : Result (List Entry) Fault) → is_err (answer_to o) ≡ false → (entries : List Entry) × (o ≡ Ok entries)
-accepting (Ok entries) is = (entries, refl)
-accepting (Err bad) is = absurd (both_ways true is refl)
+    found_here : Found (slice_get (of_kind 2 accepted.0) number) found
+    found_here = stands accepted.0 ((law.accepted accepted.0).0 accepted.1).made.bytes
+
+    pub none_found : found ≡ None → label_of file number ≡ None
+    none_found none = label_found file number accepted.0 accepted.1 ∙ ap (option_map behind_time) (subst (Found (slice_get (of_kind 2 accepted.0) number)) none found_here)
+
+    module _ (place : ℕ) (named : Record) (one : found ≡ Some (place, named)) where
+      there : slice_get (of_kind 2 accepted.0) number ≡ Some (place, named.body.now)
+      there = subst (Found (slice_get (of_kind 2 accepted.0) number)) one found_here
+
+      pub label_here : label_of file number ≡ Some (place + 6, drop 2 named.body.now)
+      label_here = label_found file number accepted.0 accepted.1 ∙ ap (option_map behind_time) there
+
+      pub never_short : length named.body.now < 2 → ⊥
+      never_short short = omega (arith, short, long_enough file number accepted.0 accepted.1 place named.body.now there)

@@ -1,12 +1,11 @@
 -- What the law says of a file, its outcome has.
-use Rattle.std.proofs.Common.{◌≡◌, ℕ, ◌<◌, true, false, List, [], length, get_or, is_some, is_ok, Some, None, Ok, Err, Option, Result, sym, refl, ap, ◌∙◌, subst, inl, inr}
+use Rattle.std.proofs.Common.{◌≡◌, ℕ, ◌<◌, true, false, List, [], length, get_or, Some, None, Ok, Err, Option, Result, sym, refl, ap, ◌∙◌, subst, inl, inr}
 use Rattle.std.specs.Option.{option_map}
 use Rattle.std.specs.List.{slice_get}
 use Rattle.std.proofs.lemmas.List.{nil_from_length}
-use Rattle.std.proofs.lemmas.Bool.{both_ways, cond-false, cond-true, eq-eqb, ne_eqb, or_from, or_left, or_right}
+use Rattle.std.proofs.lemmas.Bool.{cond-false, cond-true, eq-eqb, ne_eqb, or_from, or_left, or_right}
 use Rattle.graph.specs.Drafts.{Content, FinishLaw, finish_refusal, lacking}
 use Rattle.graph.specs.Implied.{FirstImpliedBy, first_implied}
-use Rattle.graph.specs.declared.refusal.Refusal.{Refusal}
 use Rattle.graph.specs.declared.refusal.Refusal.TheVariants as refusal
 use Rattle.planfile.specs.Files.{fault, read_on, unready, of_kind, begins, unless_implied, at_end, outcome, MadeOf, Unready, Accepted, BadRecord, PartMissing, Refused, FileLaw}
 use Rattle.planfile.specs.Records.{Entry}
@@ -17,22 +16,14 @@ use Rattle.planfile.proofs.Runs.{read_all, read_bad}
 
 -- an answer that is both taken and refused
 pub both_answers : {A B : Type 0} {value : A} {bad : B} (answer : Result A B) → answer ≡ Ok value → answer ≡ Err bad → ⊥
-both_answers answer taken refused = both_ways (is_ok answer) (ap is_ok refused) (ap is_ok taken)
+both_answers answer taken refused = cc
 
 -- the value, and the fault, that an answer has
-abbrev value_in : {A B : Type 0} → Result A B → A → A
-value_in (Ok value) other = value
-value_in (Err bad) other = other
-
 pub same_value : {A B : Type 0} {x y : A} (answer : Result A B) → answer ≡ Ok x → answer ≡ Ok y → x ≡ y
-same_value {x = x} answer is also = ap (λ r. value_in r x) (sym is ∙ also)
-
-abbrev bad_in : {A B : Type 0} → Result A B → B → B
-bad_in (Ok value) other = other
-bad_in (Err bad) other = bad
+same_value answer is also = cc
 
 pub same_bad : {A B : Type 0} {x y : B} (answer : Result A B) → answer ≡ Err x → answer ≡ Err y → x ≡ y
-same_bad {x = x} answer is also = ap (λ r. bad_in r x) (sym is ∙ also)
+same_bad answer is also = cc
 
 -- what is missing, as a test
 pub is_unready : (read : Reading) → Unready read → unready read ≡ true
@@ -51,26 +42,17 @@ module _ (held : Content) (whole : lacking held ≡ false) where
   edges_tell : finish_refusal held ≡ option_map (λ i. refusal.ImpliedEdge i) (first_implied held.edges)
   edges_tell = cond-false _ _ _ whole
 
-  abbrev edge_in : Option Refusal → ℕ → ℕ
-  edge_in None other = other
-  edge_in (Some refusal.OutOfRange) other = other
-  edge_in (Some refusal.TooManySteps) other = other
-  edge_in (Some refusal.NotRising) other = other
-  edge_in (Some refusal.EdgeTwice) other = other
-  edge_in (Some refusal.Incomplete) other = other
-  edge_in (Some (refusal.ImpliedEdge i)) other = i
-
   pub none_first : finish_refusal held ≡ None → first_implied held.edges ≡ None
   none_first is = from (first_implied held.edges) (sym edges_tell ∙ is) where
     from : (first : Option ℕ) → option_map (λ i. refusal.ImpliedEdge i) first ≡ None → first ≡ None
     from None none = refl
-    from (Some i) none = absurd (both_ways true (ap is_some none) refl)
+    from (Some i) none = cc
 
   pub one_first : (edge : ℕ) → finish_refusal held ≡ Some (refusal.ImpliedEdge edge) → first_implied held.edges ≡ Some edge
   one_first edge is = from (first_implied held.edges) (sym edges_tell ∙ is) where
     from : (first : Option ℕ) → option_map (λ i. refusal.ImpliedEdge i) first ≡ Some (refusal.ImpliedEdge edge) → first ≡ Some edge
-    from None one = absurd (both_ways false refl (ap is_some one))
-    from (Some i) one = ap Some (ap (λ r. edge_in r i) one)
+    from None one = cc
+    from (Some i) one = cc
 
 module _ (places : ℕ) (file : List ℕ) (small : (i : ℕ) → get_or file i 0 < 256) where
   pub bad_outcome : (bad : Fault) → BadRecord places file bad → outcome places file ≡ Err bad

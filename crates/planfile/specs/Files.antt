@@ -1,5 +1,5 @@
 -- What becomes of a file: a definition, and above it the law that says the same of whole files.
-use Rattle.std.specs.Prelude.{◌≡◌, ℕ, zero, suc, ◌-◌, ◌≤◌, Bool, cond, ◌||◌, ◌⊎◌, ◌↔◌, List, [], ◌∷◌, ◌++◌, length, replicate, Some, None, Ok, Err, Option, Result, ◌==◌, ◌≢◌}
+use Rattle.std.specs.Prelude.{◌≡◌, ℕ, zero, suc, ◌-◌, ◌≤◌, Bool, if◌then◌else◌, ◌||◌, ◌⊎◌, ◌↔◌, List, [], ◌∷◌, ◌++◌, length, replicate, Some, None, Ok, Err, Option, Result, ◌==◌, ◌≢◌}
 use Rattle.std.specs.List.{slice_get}
 use Rattle.cores.specs.declared.ladder.Block.{Block}
 use Rattle.graph.specs.Asked.{steps_of, deadline_of}
@@ -37,7 +37,7 @@ unready read = lacking read.held || length read.blocks == 0
 -- The records of a kind in file order: the byte at which each begins, and its body.
 abbrev pub of_kind : ℕ → List Entry → List (ℕ × List ℕ)
 of_kind kind [] = []
-of_kind kind (entry ∷ earlier) = cond (kind_of entry == kind) (of_kind kind earlier ++ ((length (file_of earlier), body_of entry) ∷ [])) (of_kind kind earlier)
+of_kind kind (entry ∷ earlier) = if kind_of entry == kind then of_kind kind earlier ++ ((length (file_of earlier), body_of entry) ∷ []) else of_kind kind earlier
 
 -- The byte at which a record begins, if there is one.
 abbrev pub begins : Option (ℕ × List ℕ) → ℕ
@@ -52,7 +52,7 @@ unless_implied (Some edge) entries = Err (fault ImpliedEdge (begins (slice_get (
 abbrev pub at_end : ℕ → Result (List Entry) Fault → Result (List Entry) Fault
 at_end size (Err bad) = Err bad
 at_end size (Ok entries) =
-    cond (unready (reading_of entries)) (Err (fault Incomplete size)) (unless_implied (first_implied (reading_of entries).held.edges) entries)
+    if unready (reading_of entries) then Err (fault Incomplete size) else unless_implied (first_implied (reading_of entries).held.edges) entries
 
 -- A file's records, or why it is refused, where there are so many places for blocks. A record has four bytes or more, so there are fewer than bytes.
 unfoldable pub outcome : ℕ → List ℕ → Result (List Entry) Fault

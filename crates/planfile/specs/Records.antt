@@ -1,5 +1,5 @@
 -- The records of a plan file, in words and in bytes. Lists of records have the newest in front.
-use Rattle.std.specs.Prelude.{ℕ, ◌+◌, ◌*◌, ◌/◌, ◌%◌, cond, List, [], ◌∷◌, ◌++◌, length, take, drop, ◌==◌, slice_index}
+use Rattle.std.specs.Prelude.{ℕ, ◌+◌, ◌*◌, ◌/◌, ◌%◌, if◌then◌else◌, List, [], ◌∷◌, ◌++◌, length, take, drop, ◌==◌, slice_index}
 
 -- What a record says.
 pub data Entry : Type 0 where
@@ -62,9 +62,9 @@ behind_front bytes = drop (number_at bytes 0) (drop 4 bytes)
 -- and what a body of a kind says.
 abbrev pub entry_of : ℕ → List ℕ → Entry
 entry_of kind body =
-    cond (kind == 1) (deadline (number_at body 0))
-    (cond (kind == 2) (step (number_at body 0) (drop 2 body))
-    (cond (kind == 3) (edge (slice_index body 0) (slice_index body 1))
-    (cond (kind == 4) (block (slice_index body 0) (number_at body 1))
-    (cond (kind == 5) (hold_back (slice_index body 0) (number_at body 1) (number_at body 3))
-    (late (number_at body 0))))))
+    if kind == 1 then deadline (number_at body 0)
+    else if kind == 2 then step (number_at body 0) (drop 2 body)
+    else if kind == 3 then edge (slice_index body 0) (slice_index body 1)
+    else if kind == 4 then block (slice_index body 0) (number_at body 1)
+    else if kind == 5 then hold_back (slice_index body 0) (number_at body 1) (number_at body 3)
+    else late (number_at body 0)

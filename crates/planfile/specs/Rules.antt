@@ -1,12 +1,13 @@
 -- What the records of a file say together, and why a record is refused after them.
-use Rattle.std.specs.Prelude.{ℕ, ◌+◌, ◌-◌, Bool, true, false, cond, not, ◌&&◌, ◌||◌, List, [], ◌∷◌, ◌++◌, length, Some, None, Option, ◌==◌, nat_le, nat_lt, slice_index_or}
+use Rattle.std.specs.Prelude.{ℕ, ◌+◌, ◌-◌, Bool, true, false, if◌then◌else◌, not, ◌&&◌, ◌||◌, List, [], ◌∷◌, ◌++◌, length, Some, None, Option, ◌==◌, nat_le, nat_lt, slice_index_or}
+use Rattle.std.specs.List.{list_all}
 use Rattle.cores.specs.declared.ladder.Block.{Block}
 use Rattle.graph.specs.Drafts.{Content, with_deadline, with_time, with_edge, in_range, listed}
 use Rattle.planfile.specs.Records.{Entry, deadline, step, edge, block, hold_back, late, kind_of, body_of, number_at, front_kind, front_body, entry_of}
 use Rattle.planfile.specs.declared.cause.Cause.{Cause}
 use Rattle.planfile.specs.declared.cause.Cause.TheVariants.{CutShort, UnknownKind, BodyLength, OutOfOrder, NoRoom, OutOfRange, NotRising, EdgeTwice}
 use Rattle.planfile.specs.declared.kind.KindRule.{KindRule}
-use Rattle.planfile.specs.declared.layers.Window.{Window}
+use Rattle.cores.specs.declared.window.Window.{Window}
 
 -- What has been read: what there is of the plan, the blocks in file order, hold-back and late if present.
 pub record Reading : Type 0 where
@@ -76,8 +77,7 @@ no_room places read (late ticks) = false
 
 -- A label's bytes are printed characters, without the blank.
 abbrev pub printable : List ℕ → Bool
-printable [] = true
-printable (byte ∷ bytes) = (nat_le 33 byte && nat_le byte 126) && printable bytes
+printable bytes = list_all (λ byte. nat_le 33 byte && nat_le byte 126) bytes
 
 abbrev pub some_cores : ℕ → Bool
 some_cores cores = nat_le 1 cores && nat_le cores 64
@@ -130,7 +130,7 @@ causes places earlier kind size entry = kind_causes (last_kind earlier) kind siz
 -- The first that holds, if any.
 abbrev pub first_cause : List (Bool × Cause) → Option Cause
 first_cause [] = None
-first_cause (test ∷ tests) = cond test.0 (Some test.1) (first_cause tests)
+first_cause (test ∷ tests) = if test.0 then Some test.1 else first_cause tests
 
 -- Why a record is refused after others, if it is,
 abbrev pub entry_cause : ℕ → List Entry → Entry → Option Cause
@@ -142,5 +142,5 @@ cut_short bytes = nat_lt (length bytes) 4 || nat_lt (length bytes) (4 + number_a
 
 abbrev pub front_cause : ℕ → List Entry → List ℕ → Option Cause
 front_cause places earlier bytes =
-    cond (cut_short bytes) (Some CutShort)
-    (first_cause (causes places earlier (front_kind bytes) (length (front_body bytes)) (entry_of (front_kind bytes) (front_body bytes))))
+    if cut_short bytes then Some CutShort
+    else first_cause (causes places earlier (front_kind bytes) (length (front_body bytes)) (entry_of (front_kind bytes) (front_body bytes)))

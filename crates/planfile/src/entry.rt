@@ -1,5 +1,4 @@
-use crate::layers::Window;
-use cores::Block;
+use cores::{Block, Window};
 
 // What a record says.
 pub(crate) enum Entry<'a> {

@@ -3,29 +3,27 @@ ghost use Rattle.std.specs.Prelude.{◌≡◌, List};
 ghost use Rattle.std.specs.List.{slice_get};
 ghost use Rattle.planfile.specs.Cutting.{Found, Within};
 ghost use Rattle.planfile.specs.Files.{of_kind};
+ghost use Rattle.planfile.specs.Kinds.{kind_number};
 ghost use Rattle.planfile.specs.Records.{Entry, file_of};
 
-use crate::record::{Record, cut};
+use crate::kind::Kind;
+use crate::record::Record;
+use crate::records::Records;
 
 // The record of a kind that has so many of its kind before it, and the byte at which it begins.
-pub(crate) fn find(file: &[u8], kind: u16, before: usize) -> Option<(usize, Record<'_>)>
-    ensures found { (entries : List Entry) → file.now ≡ file_of entries → Found (slice_get (of_kind kind entries) before) result }
+pub(crate) fn find(file: &[u8], kind: Kind, before: usize) -> Option<(usize, Record<'_>)>
+    ensures found { (entries : List Entry) → file.now ≡ file_of entries → Found (slice_get (of_kind (kind_number kind) entries) before) result }
     ensures within { Within file.now result }
 {
-    let mut rest = file;
     let mut left = before;
-    while !rest.is_empty() {
-        let place = file.len() - rest.len();
-        let Ok((record, after)) = cut(rest, place) else {
-            return None;
-        };
+    for next in Records::new(file) {
+        let (place, record) = next.ok()?;
         if record.kind == kind {
             if left == 0 {
                 return Some((place, record));
             }
             left -= 1;
         }
-        rest = after;
     }
     None
 }

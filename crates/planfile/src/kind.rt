@@ -1,10 +1,19 @@
-ghost use Rattle.std.specs.Prelude.{◌≡◌, if◌then◌else◌, Some, None};
-ghost use Rattle.planfile.specs.Rules.{unknown, rule_of};
+ghost use Rattle.std.specs.Prelude.{◌≡◌};
+ghost use Rattle.planfile.specs.Kinds.{kind_number, Numbered};
+ghost use Rattle.planfile.specs.Rules.{rule_of};
 
-// Kinds of records that are looked for again.
-pub(crate) const STEP: u16 = 2;
+use crate::cause::Cause;
 
-pub(crate) const EDGE: u16 = 3;
+// What a record is about, by the number in its header. A file has its kinds in this order.
+#[derive(Clone, Copy, Debug, PartialEq, Eq, PartialOrd, Ord)]
+pub(crate) enum Kind {
+    Deadline = 1,
+    Step,
+    Edge,
+    Block,
+    HoldBack,
+    Late,
+}
 
 // What a kind asks of its records: the bytes of the body, and whether another may follow.
 #[derive(Clone, Copy)]
@@ -48,12 +57,28 @@ const KIND_RULES: [KindRule; 6] = [
     },
 ];
 
-// The rule of a kind, if there is such a kind.
-pub(crate) fn rule_for(kind: u16) -> Option<KindRule>
-    ensures { result ≡ (if unknown kind then None else Some (rule_of kind)) }
-{
-    if kind < 1 || kind > 6 {
-        return None;
+impl TryFrom<u16> for Kind {
+    type Error = Cause;
+
+    ghost try_from_gives = { Numbered };
+
+    fn try_from(number: u16) -> Result<Kind, Cause> {
+        match number {
+            1 => Ok(Kind::Deadline),
+            2 => Ok(Kind::Step),
+            3 => Ok(Kind::Edge),
+            4 => Ok(Kind::Block),
+            5 => Ok(Kind::HoldBack),
+            6 => Ok(Kind::Late),
+            _ => Err(Cause::UnknownKind),
+        }
     }
-    Some(KIND_RULES[usize::from(kind - 1)])
+}
+
+impl Kind {
+    pub(crate) fn rule(self) -> KindRule
+        ensures { result ≡ rule_of (kind_number self) }
+    {
+        KIND_RULES[self as usize - 1]
+    }
 }

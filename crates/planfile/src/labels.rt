@@ -1,9 +1,10 @@
 // The labels of a file's steps.
 ghost use Rattle.std.specs.Prelude.{◌≡◌, Some, None, MatchOption};
 ghost use Rattle.planfile.specs.Labels.{LabelLaw, label_of};
+ghost use Rattle.planfile.specs.Rules.{printable};
 
 use crate::finding::find;
-use crate::kind::STEP;
+use crate::kind::Kind;
 use crate::reading::{NO_BLOCK, read};
 use graph::Plan;
 
@@ -20,12 +21,17 @@ pub fn label(file: &[u8], step: u8) -> Option<(usize, &[u8])>
 {
     let mut plan = Plan::empty();
     let mut blocks = [NO_BLOCK; MOST_BLOCKS];
-    if read(file, &mut plan, &mut blocks).is_err() {
-        return None;
-    }
-    let (place, record) = find(file, STEP, usize::from(step))?;
+    read(file, &mut plan, &mut blocks).ok()?;
+    let (place, record) = find(file, Kind::Step, usize::from(step))?;
     let [_, _, label @ ..] = record.body else {
         return None;
     };
     Some((place + LABEL_AT, label))
+}
+
+// Whether each byte of a label is a printed character and no blank.
+pub(crate) fn is_printable(label: &[u8]) -> bool
+    ensures { result ≡ printable label.now }
+{
+    label.iter().all(u8::is_ascii_graphic)
 }

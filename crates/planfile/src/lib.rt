@@ -10,12 +10,12 @@ mod kind;
 mod label_tests;
 mod labels;
 mod layers;
-mod progress;
+mod reader;
 mod reading;
 mod record;
+mod records;
 #[cfg(test)]
 mod refusal_tests;
-mod taking;
 #[cfg(test)]
 mod test_files;
 #[cfg(test)]
@@ -23,6 +23,7 @@ mod tests;
 mod whole;
 
 pub use cause::{Cause, Fault};
+pub use cores::Window;
 pub use labels::{MOST_BLOCKS, label};
-pub use layers::{Layers, Window};
-pub use reading::read;
+pub use layers::Layers;
+pub use reading::{NO_BLOCK, read};

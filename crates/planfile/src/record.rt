@@ -2,10 +2,11 @@
 ghost use Rattle.planfile.specs.Cutting.{Cut};
 
 use crate::cause::{Cause, Fault};
+use crate::kind::Kind;
 
 #[derive(Clone, Copy)]
 pub(crate) struct Record<'a> {
-    pub(crate) kind: u16,
+    pub(crate) kind: Kind,
     pub(crate) body: &'a [u8],
 }
 
@@ -14,19 +15,12 @@ pub(crate) fn cut(bytes: &[u8], place: usize) -> Result<(Record<'_>, &[u8]), Fau
     ensures { Cut bytes.now place result }
 {
     let [l0, l1, k0, k1, rest @ ..] = bytes else {
-        return Err(Fault {
-            cause: Cause::CutShort,
-            place,
-        });
+        return Err(Cause::CutShort.at(place));
     };
     let length = usize::from(u16::from_le_bytes([*l0, *l1]));
-    if rest.len() < length {
-        return Err(Fault {
-            cause: Cause::CutShort,
-            place,
-        });
-    }
-    let (body, after) = rest.split_at(length);
-    let kind = u16::from_le_bytes([*k0, *k1]);
+    let Some((body, after)) = rest.split_at_checked(length) else {
+        return Err(Cause::CutShort.at(place));
+    };
+    let kind = Kind::try_from(u16::from_le_bytes([*k0, *k1])).map_err(|cause| cause.at(place))?;
     Ok((Record { kind, body }, after))
 }

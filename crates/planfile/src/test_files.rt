@@ -46,6 +46,7 @@ pub(crate) fn block_at(place: usize) -> (u8, u16) {
     ((place % 64) as u8 + 1, (place % 20_000) as u16 + 1)
 }
 
+// The kind is a number, since tests write kinds that there are not.
 fn add_header(file: &mut Vec<u8>, length: usize, kind: u16) -> Result<(), AllocError> {
     let [l0, l1, ..] = length.to_le_bytes();
     let [k0, k1] = kind.to_le_bytes();
@@ -115,8 +116,7 @@ pub(crate) fn file_of(heap: Global, parts: &[Part<'_>]) -> Result<Vec<u8>, Alloc
 
 // The number and the place of a refusal; none where the file is accepted.
 pub(crate) fn refusal_in(answer: Result<Layers, Fault>) -> Option<(u8, usize)> {
-    match answer {
-        Ok(_) => None,
-        Err(fault) => Some((fault.cause.number(), fault.place)),
-    }
+    answer
+        .err()
+        .map(|fault| (fault.cause.number(), fault.place))
 }

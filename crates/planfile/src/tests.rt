@@ -8,19 +8,6 @@ use std::alloc::Global;
 use std::process::Abort;
 use std::test::Fail;
 
-const NO_LAYERS: Layers = Layers {
-    hold_back: None,
-    late: None,
-};
-
-fn set_of(steps: &[u8]) -> StepSet {
-    let mut set = StepSet::new();
-    for step in steps {
-        set.insert(*step);
-    }
-    set
-}
-
 // The blocks at the front of a list are the ones of so many as `block_at` says, and the rest is zero.
 fn filled(rt: &impl Abort, list: &[cores::Block], count: usize) {
     for (place, block) in list.iter().enumerate() {
@@ -37,19 +24,19 @@ fn filled(rt: &impl Abort, list: &[cores::Block], count: usize) {
 fn hide_is_read(rt: HostRuntime) {
     let mut plan = Plan::empty();
     let mut blocks = [OLD_BLOCK; 2];
-    assert_eq!(rt; read(HIDE, &mut plan, &mut blocks), Ok(NO_LAYERS));
+    assert_eq!(rt; read(HIDE, &mut plan, &mut blocks), Ok(Layers::default()));
     assert_eq!(rt; (plan.count(), plan.deadline()), (6, 10));
-    let steps: [(u8, u16, &[u8]); 6] = [
-        (0, 1, &[]),
-        (1, 3, &[0]),
-        (2, 2, &[0]),
-        (3, 4, &[0]),
-        (4, 2, &[1, 2]),
-        (5, 1, &[3, 4]),
+    let steps = [
+        (0, 1, StepSet::new()),
+        (1, 3, StepSet::from([0])),
+        (2, 2, StepSet::from([0])),
+        (3, 4, StepSet::from([0])),
+        (4, 2, StepSet::from([1, 2])),
+        (5, 1, StepSet::from([3, 4])),
     ];
     for (step, time, before) in steps {
         assert_eq!(rt; plan.time(step), Some(time));
-        assert_eq!(rt; plan.predecessors(step), Some(set_of(before)));
+        assert_eq!(rt; plan.predecessors(step), Some(before));
     }
     assert_eq!(rt; plan.time(6), None);
     assert_eq!(rt; plan.predecessors(6), None);
@@ -70,8 +57,8 @@ fn sixty_four_steps(rt: HostRuntime) -> Result<(), Fail> {
         assert_eq!(rt; plan.time(step), Some(u16::from(step) + 1));
     }
     assert_eq!(rt; plan.time(64), None);
-    assert_eq!(rt; plan.predecessors(62), Some(set_of(&[])));
-    assert_eq!(rt; plan.predecessors(63), Some(set_of(&[62])));
+    assert_eq!(rt; plan.predecessors(62), Some(StepSet::new()));
+    assert_eq!(rt; plan.predecessors(63), Some(StepSet::from([62])));
     Ok(())
 }
 
@@ -137,10 +124,10 @@ fn nothing_old_is_left_by_an_accepted_file(rt: HostRuntime) -> Result<(), Fail> 
     let mut blocks = [OLD_BLOCK; 65];
     read_full(&rt, heap, &mut plan, &mut blocks)?;
     let file = file_of(heap, &[Deadline(5), Step(7, b""), Step(8, b""), Blocks(2)])?;
-    assert_eq!(rt; read(&file, &mut plan, &mut blocks), Ok(NO_LAYERS));
+    assert_eq!(rt; read(&file, &mut plan, &mut blocks), Ok(Layers::default()));
     assert_eq!(rt; (plan.count(), plan.deadline()), (2, 5));
     assert_eq!(rt; (plan.volume(), plan.length()), (15, 8));
-    assert_eq!(rt; plan.predecessors(1), Some(set_of(&[])));
+    assert_eq!(rt; plan.predecessors(1), Some(StepSet::new()));
     filled(&rt, &blocks, 2);
     Ok(())
 }
@@ -193,7 +180,7 @@ fn values_and_layers(rt: HostRuntime) -> Result<(), Fail> {
             deadline: 1,
             time: 1,
             block: (1, 1),
-            layers: NO_LAYERS,
+            layers: Layers::default(),
         },
         Case {
             parts: &[

@@ -1,14 +1,17 @@
 -- What every plan has: its longest path and its volume, as the timing of its runs needs them.
 use Rattle.std.proofs.Common.{◌≡◌, ℕ, zero, suc, ◌+◌, ◌-◌, ◌<◌, ◌≤◌, List, map, length, get_or, take, Some, None, sum, Option, unwrap_or, sym, refl, ap, ◌∙◌, subst, ap₂, add-one, arith}
+use Rattle.std.proofs.lemmas.List.{get_or_past, take_all}
 use Rattle.std.proofs.lemmas.List.Sums.{sum_by_more}
 use Rattle.certificate.specs.Marking.{total}
 use Rattle.certificate.proofs.Totals.{total_push}
 use Rattle.graph.specs.Asked.{steps_of, time_in, before_in, volume_of, length_of}
+use Rattle.graph.specs.Graphs.{times_of, sets_of}
 use Rattle.graph.specs.Lengths.{path_time, Longest}
 use Rattle.graph.specs.Measures.{lengthened, length_at}
 use Rattle.graph.specs.Paths.{Among, IsPath, EndsAt, AllPaths, paths}
 use Rattle.graph.specs.Walks.{carried}
 use Rattle.graph.specs.declared.plan.Plan.{Plan}
+use Rattle.graph.proofs.GraphLists.{length_times}
 use Rattle.graph.proofs.Listing.{map_among}
 use Rattle.graph.proofs.Order.{before_below, members_distinct}
 use Rattle.graph.proofs.PathLists.{all_paths}
@@ -18,7 +21,7 @@ use Rattle.runner.proofs.Roads.{some_path}
 
 module _ (plan : Plan) where
   rising : (step from : ℕ) → Among from (before_in plan step) → from < step
-  rising = before_below plan.graph.predecessors plan.graph.rising
+  rising = before_below (sets_of plan.graph.steps) plan.graph.rising
 
   listed : (step : ℕ) → AllPaths (before_in plan) step (paths (before_in plan) step)
   listed step = all_paths (before_in plan) rising (λ s. members_distinct _) step
@@ -54,8 +57,10 @@ module _ (plan : Plan) where
 
   pub volume_total : total (time_in plan) 0 64 ≡ volume_of plan
   volume_total =
-      let graph = plan.graph in
-      let all : 64 ≡ graph.count + (64 - graph.count) = omega (arith, graph.few) in
+      let steps = plan.graph.steps in
+      let times = times_of steps in
+      let all : 64 ≡ length steps + (64 - length steps) = omega (arith, plan.graph.few) in
       ap (total (time_in plan) 0) all
-      ∙ total_short (time_in plan) 0 graph.count (64 - graph.count) (λ x past. (graph.unused x (omega arith)).0)
-      ∙ total_list graph.times graph.count (omega (arith, graph.few, graph.sized.0))
+      ∙ total_short (time_in plan) 0 (length steps) (64 - length steps) (λ x past. get_or_past times x 0 (omega (arith, length_times steps)))
+      ∙ total_list times (length steps) (omega (arith, length_times steps))
+      ∙ ap sum (take_all (length steps) times (omega (arith, length_times steps)))

@@ -6,6 +6,8 @@ use Rattle.certificate.proofs.levels.histogram.Given as goal
 abbrev pub invariant-loop-tick : goal.invariant-loop-tick
 invariant-loop-tick g l =
     let counted = l.tick - l.initial.tick in
-    (length l.counts ≡ 65)
-    × ((cores : ℕ) → cores ≤ 64 → get_or l.counts cores 0 ≡ exactly (g.S.Supply.width l.supply) l.initial.tick counted cores)
-    × (counted ≤ l.tick-end - l.initial.tick)
+    record {
+      size : length l.counts ≡ 65;
+      counts : (cores : ℕ) → cores ≤ 64 → get_or l.counts cores 0 ≡ exactly (g.S.Supply.width l.supply) l.initial.tick counted cores;
+      within : counted ≤ l.tick-end - l.initial.tick;
+    }

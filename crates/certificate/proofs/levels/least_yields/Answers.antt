@@ -26,7 +26,7 @@ loop-cores-init g c =
     let level = reaching width test.first (ticks test) in
     let one : c.from-sum.result ≡ level 1 =
     omega (arith, c.histogram-counts.ensures.counts 0 (omega arith), reaching_all width test.first (ticks test), reaching_next width test.first (ticks test) 0) in
-    (refl, omega arith, one, omega arith, up_to_one (set (replicate 65 0) 1 c.from-sum.result) level c.marks_allowed-allowed.result refl one)
+    record { size = refl; reached = omega arith; sum = one; fits = omega arith; yields = up_to_one (set (replicate 65 0) 1 c.from-sum.result) level c.marks_allowed-allowed.result refl one }
 
 pub overflow_sub-level-in-loop-cores : goal.overflow_sub-level-in-loop-cores
 overflow_sub-level-in-loop-cores g c =
@@ -47,24 +47,23 @@ loop-cores-preserved g c =
     let next : c.loop-cores.level - get_or c.histogram-counts.result cores 0 ≡ level (cores + 1) =
     omega (arith, reaching_next width test.first (ticks test) cores, ap level place) in
     let more : c.loop-cores.sum + c.from-sum-in-loop-cores.result ≡ stacked level allowed (cores + 1) =
-    omega (arith, stacked_next level allowed cores (omega arith)) in (
-      length-set _ _ _ ∙ c.loop-cores.invariant.0,
-      next,
-      more,
-      omega arith,
-      λ ceiling within.
+    omega (arith, stacked_next level allowed cores (omega arith)) in
+    record {
+      size = length-set _ _ _ ∙ c.loop-cores.invariant.size;
+      reached = next;
+      sum = more;
+      fits = omega arith;
+      yields = λ ceiling within.
           rw more
-          (fill_by_more (stacked level allowed) c.loop-cores.yields (cores + 1) 0 (omega (arith, c.loop-cores.invariant.0)) (λ lower under. c.loop-cores.invariant.4 lower (omega arith)) ceiling (omega arith)),
-    )
+          (fill_by_more (stacked level allowed) c.loop-cores.yields (cores + 1) 0 (omega (arith, c.loop-cores.invariant.size)) (λ lower under. c.loop-cores.invariant.yields lower (omega arith)) ceiling (omega arith));
+    }
 
 pub returns : goal.returns
 returns g c =
     let width = g.S.Supply.width c.args.supply.now in
     let test = c.args.test.now in
     record {
-      size = c.loop-cores.invariant.0;
+      size = c.loop-cores.invariant.size;
       yields = λ ceiling within.
-          c.loop-cores.invariant.4 ceiling (omega arith)
-          ∙ ap (λ allowed. stacked (reaching width test.first (ticks test)) allowed ceiling) c.marks_allowed-allowed.ensures
-          ∙ stacked_is_least width (allowance test.length) ceiling test.first (ticks test);
+          rw (c.loop-cores.invariant.yields ceiling (omega arith), c.marks_allowed-allowed.ensures) (stacked_is_least width (allowance test.length) ceiling test.first (ticks test));
     }

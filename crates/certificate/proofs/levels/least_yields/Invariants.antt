@@ -7,8 +7,10 @@ use Rattle.certificate.proofs.levels.least_yields.Given as goal
 abbrev pub invariant-loop-cores : goal.invariant-loop-cores
 invariant-loop-cores g l =
     let level : ℕ → ℕ = reaching (g.S.Supply.width l.supply) l.test.first (ticks l.test) in
-    (length l.yields ≡ 65)
-    × (l.level ≡ level l.cores)
-    × (l.sum ≡ stacked level l.allowed l.cores)
-    × (l.sum ≤ 2 ^ 32 * l.cores)
-    × ((ceiling : ℕ) → ceiling ≤ l.cores → get_or l.yields ceiling 0 ≡ stacked level l.allowed ceiling)
+    record {
+      size : length l.yields ≡ 65;
+      reached : l.level ≡ level l.cores;
+      sum : l.sum ≡ stacked level l.allowed l.cores;
+      fits : l.sum ≤ 2 ^ 32 * l.cores;
+      yields : (ceiling : ℕ) → ceiling ≤ l.cores → get_or l.yields ceiling 0 ≡ stacked level l.allowed ceiling;
+    }

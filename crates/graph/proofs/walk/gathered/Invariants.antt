@@ -1,5 +1,5 @@
 use Rattle.std.proofs.Common.{◌≡◌, ℕ, map, get_or}
-use Rattle.graph.specs.Sets.{members}
+use Rattle.graph.specs.Sets.{members, steps_left}
 use Rattle.graph.specs.Walks.{plus, join_all}
 use Rattle.graph.proofs.walk.gathered.Given as goal
 
@@ -8,7 +8,4 @@ abbrev pub invariant-loop-step : goal.invariant-loop-step
 invariant-loop-step g l =
     let join = g.M.Measure.join l.measure in
     let value = λ (step : ℕ). get_or l.values step (g.M.Measure.start l.measure) in
-    plus join l.sum (join_all join (map value (members l.rest))) ≡ join_all join (map value (members l.initial.rest))
-
-abbrev pub decreases-loop-step : goal.decreases-loop-step
-decreases-loop-step g l = l.rest.bits
+    plus join l.sum (join_all join (map value (steps_left l.step-iterator))) ≡ join_all join (map value (members l.fn.steps))

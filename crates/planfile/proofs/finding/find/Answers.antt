@@ -1,74 +1,38 @@
-use Rattle.std.proofs.Common.{◌≡◌, ◌≤◌, length, Some, sym, ap, ◌∙◌, arith, rules}
-use Rattle.planfile.proofs.Advancing.{shorter}
-use Rattle.planfile.proofs.Bytes.{encoded_size}
-use Rattle.planfile.proofs.Lookups.{from_start, past_end, next, never_short, pass_other, pass_one, the_one, the_place}
+use Rattle.std.proofs.Common.{◌≡◌, ◌∙◌, rules}
+use Rattle.planfile.specs.Kinds.{kind_number}
+use Rattle.planfile.proofs.Lookups.{from_start, past_end, given_record, no_fault, passed_other, passed_one, this_one, within_file}
 use Rattle.planfile.proofs.finding.find.Goals as goal
 
-pub loop-rest-init : goal.loop-rest-init
-loop-rest-init c = (omega arith, λ entries is. from_start c.args.kind c.args.before entries c.args.file.now is)
+pub loop-next-init : goal.loop-next-init
+loop-next-init c =
+    let whole : c.into_iter-next-iterator.result.rest.now ≡ c.args.file.now = search rules in
+    record { file = search rules; onward = λ entries is. from_start (kind_number c.args.kind) c.args.before entries c.into_iter-next-iterator.result.rest.now (whole ∙ is) }
 
-pub returns-in_default : goal.returns-in_default
-returns-in_default c =
-    let some : 1 ≤ length c.loop-rest.rest.now = search rules in
-    record {
-      found = λ entries is. absurd (never_short c.args.kind c.args.before entries c.loop-rest.rest.now c.loop-rest.left (c.loop-rest.invariant.1 entries is) some c.in_default.ensures.0);
-      within = tt;
-    }
+pub returns-in_err-place-clause-found : goal.returns-in_err-place-clause-found
+returns-in_err-place-clause-found c = λ entries is.
+    absurd (no_fault c.loop-next.next-iterator c.next.new.self (c.loop-next.invariant.onward entries is) c.in-Some.next (search rules) c.in-Some.ensures.steps)
 
-pub returns-then-left-eq0 : goal.returns-then-left-eq0
-returns-then-left-eq0 c =
-    let file = c.args.file.now in
-    let rest = c.loop-rest.rest.now in
-    let found = c.in-Ok.record in
-    let body = found.body.now in
-    let after = c.in-Ok.after.now in
-    let cut = c.in-Ok.ensures in
-    record {
-      found = λ entries is.
-          let one = next c.args.kind c.args.before entries rest c.loop-rest.left (c.loop-rest.invariant.1 entries is) found.kind body after cut in
-          the_one _ _ entries _ found.kind body after _ one (search rules) (search rules)
-          ∙ ap (λ place. Some (place, body)) (sym (the_place _ _ entries (length rest) found.kind body after _ one file is (ap length cut)));
-      within = omega (arith, c.loop-rest.invariant.0, ap length cut, encoded_size found.kind body after);
-    }
+pub returns-then-left-eq0-clause-found : goal.returns-then-left-eq0-clause-found
+returns-then-left-eq0-clause-found c = λ entries is.
+    let given = given_record c.loop-next.next-iterator c.next.new.self c.in-Some.next (c.in_ok-place.place, c.in_ok-place.record) (search rules) c.in-Some.ensures.steps in
+    this_one (c.loop-next.invariant.onward entries is) given (c.loop-next.invariant.file ∙ is) (search rules) (search rules)
 
-pub loop-rest-smaller-else-left-eq0 : goal.loop-rest-smaller-else-left-eq0
-loop-rest-smaller-else-left-eq0 c =
-    shorter c.in-Ok.record.kind c.in-Ok.record.body.now c.in-Ok.after.now c.loop-rest.rest.now c.in-Ok.ensures
+pub returns-then-left-eq0-clause-within : goal.returns-then-left-eq0-clause-within
+returns-then-left-eq0-clause-within c =
+    let given = given_record c.loop-next.next-iterator c.next.new.self c.in-Some.next (c.in_ok-place.place, c.in_ok-place.record) (search rules) c.in-Some.ensures.steps in
+    let within = within_file given c.loop-next.next-iterator.within in
+    rw c.loop-next.invariant.file at within
 
-pub loop-rest-preserved-else-left-eq0 : goal.loop-rest-preserved-else-left-eq0
-loop-rest-preserved-else-left-eq0 c =
-    let rest = c.loop-rest.rest.now in
-    let found = c.in-Ok.record in
-    let body = found.body.now in
-    let after = c.in-Ok.after.now in
-    let cut = c.in-Ok.ensures in (
-      omega (arith, c.loop-rest.invariant.0, shorter found.kind body after rest cut),
-      λ entries is.
-          let one = next c.args.kind c.args.before entries rest c.loop-rest.left (c.loop-rest.invariant.1 entries is) found.kind body after cut in
-          pass_one _ _ entries _ found.kind body after _ one (search rules) (search rules),
-    )
+pub loop-next-preserved-then-eq : goal.loop-next-preserved-then-eq
+loop-next-preserved-then-eq c =
+    let given = given_record c.loop-next.next-iterator c.next.new.self c.in-Some.next (c.in_ok-place.place, c.in_ok-place.record) (search rules) c.in-Some.ensures.steps in
+    record { file = given.file ∙ c.loop-next.invariant.file; onward = λ entries is. passed_one (c.loop-next.invariant.onward entries is) given (search rules) (search rules) }
 
-pub loop-rest-smaller : goal.loop-rest-smaller
-loop-rest-smaller c =
-    shorter c.in-Ok.record.kind c.in-Ok.record.body.now c.in-Ok.after.now c.loop-rest.rest.now c.in-Ok.ensures
+pub loop-next-preserved : goal.loop-next-preserved
+loop-next-preserved c =
+    let given = given_record c.loop-next.next-iterator c.next.new.self c.in-Some.next (c.in_ok-place.place, c.in_ok-place.record) (search rules) c.in-Some.ensures.steps in
+    record { file = given.file ∙ c.loop-next.invariant.file; onward = λ entries is. passed_other (c.loop-next.invariant.onward entries is) given (search rules) }
 
-pub loop-rest-preserved : goal.loop-rest-preserved
-loop-rest-preserved c =
-    let rest = c.loop-rest.rest.now in
-    let found = c.in-Ok.record in
-    let body = found.body.now in
-    let after = c.in-Ok.after.now in
-    let cut = c.in-Ok.ensures in (
-      omega (arith, c.loop-rest.invariant.0, shorter found.kind body after rest cut),
-      λ entries is.
-          let one = next c.args.kind c.args.before entries rest c.loop-rest.left (c.loop-rest.invariant.1 entries is) found.kind body after cut in
-          pass_other _ _ entries _ found.kind body after _ one (search rules),
-    )
-
-pub returns : goal.returns
-returns c =
-    let none : length c.loop-rest.rest.now ≡ 0 = search rules in
-    record {
-      found = λ entries is. past_end c.args.kind c.args.before entries c.loop-rest.rest.now c.loop-rest.left (c.loop-rest.invariant.1 entries is) none;
-      within = tt;
-    }
+pub returns-clause-found : goal.returns-clause-found
+returns-clause-found c = λ entries is.
+    past_end (c.loop-next.invariant.onward entries is) c.in-None.ensures.steps.0

@@ -1,15 +1,14 @@
-use Rattle.std.proofs.Common.{ap, ◌∙◌}
-use Rattle.firmware.specs.Cores.{granted}
-use Rattle.firmware.proofs.Granting.{same_widths}
+use Rattle.std.proofs.Common.{rules, ap, ◌∙◌}
+use Rattle.firmware.specs.Cores.{granted, no_window}
+use Rattle.firmware.proofs.Granting.{same_widths, or_default}
 use Rattle.firmware.proofs.file_cores.FileCores.new.Goals as goal
 
 pub returns : goal.returns
 unfolding granted
 returns c = λ tick.
-    let window = c.unwrap_or-window.ensures in
+    let late = or_default {default = 0} (λ value is. is) c.args.layers.late _ c.unwrap_or_default.ensures in
+    let window = or_default {default = no_window} (λ value is. search (rules, is)) c.args.layers.hold_back _ c.unwrap_or_default-window.ensures in
     same_widths tick
-    (ap (λ late. late.below.blocks.now) c.new-2.ensures.below ∙ ap (λ ladder. ladder.blocks.now) c.new-begun.ensures.below ∙ ap (λ x. x.now) c.new.ensures)
-    (ap (λ late. late.by) c.new-2.ensures.below ∙ c.new-begun.ensures.by ∙ c.from.ensures ∙ c.unwrap_or-late.ensures)
-    (c.new-2.ensures.cores ∙ ap (λ w. w.cores) window)
-    (c.new-2.ensures.from ∙ c.from-from.ensures ∙ ap (λ w. w.from) window)
-    (c.new-2.ensures.until ∙ c.from-until.ensures ∙ ap (λ w. w.until) window)
+    (ap (λ late. late.below.blocks.now) c.new-3.ensures.below ∙ ap (λ ladder. ladder.blocks.now) c.new-2.ensures.below ∙ ap (λ x. x.now) c.new.ensures)
+    (ap (λ late. late.by) c.new-3.ensures.below ∙ c.new-2.ensures.by ∙ c.from-late.ensures ∙ late)
+    (c.new-3.ensures.window ∙ window)

@@ -1,96 +1,89 @@
-use Rattle.std.proofs.Common.{◌≡◌, ℕ, ◌+◌, ◌<◌, Bool, true, false, List, length, take, set, sym, refl, ap, ◌∙◌, ap₂, subst₂, arith, length-set, length-take}
-use Rattle.std.proofs.lemmas.List.{take_more_set}
-use Rattle.std.proofs.lemmas.Bool.{both_ways}
+use Rattle.std.proofs.Common.{◌≡◌, ℕ, ◌+◌, ◌<◌, true, false, [], ◌∷◌, ◌++◌, length, length-append, set, Some, None, sym, refl, ap, ◌∙◌, subst₂, arith, rules}
 use Rattle.graph.specs.Drafts.{content, with_edge, edge_refusal}
 use Rattle.graph.specs.Edges.{edges_in, EachInGraph, NoOther}
-use Rattle.graph.specs.Graphs.{set_before}
+use Rattle.graph.specs.Graphs.{sets_of, set_before}
 use Rattle.graph.specs.Sets.{has, with_step}
 use Rattle.graph.specs.declared.draft.Draft.{Draft}
 use Rattle.graph.specs.declared.edge.Edge.{Edge}
 use Rattle.graph.specs.declared.graph.Graph.{Graph}
-use Rattle.graph.specs.declared.step_set.StepSet.{StepSet}
+use Rattle.graph.specs.declared.refusal.Refusal.TheVariants.{EdgeTwice}
 use Rattle.graph.proofs.Adding.{listed_has, has_listed, listed_more, complete_more}
-use Rattle.graph.proofs.EdgeCounts.{edges_with, edges_bound, few_edges}
+use Rattle.graph.proofs.EdgeCounts.{edges_with, edges_bound}
+use Rattle.graph.proofs.GraphLists.{length_times, length_sets}
 use Rattle.graph.proofs.Refusing.{refused, accepted, same_content, edge_twice, edge_new}
 use Rattle.graph.proofs.draft.Draft.add_edge.Goals as goal
 
--- what the set at a place was found to have
-found : (sets : List StepSet) (at to from : ℕ) (answer : Bool) → at ≡ to → answer ≡ has (set_before sets at) from → has (set_before sets to) from ≡ answer
-found sets at to from answer place is = ap (λ k. has (set_before sets k) from) (sym place) ∙ sym is
+abbrev edge : ℕ → ℕ → Edge
+edge from to = record { from = from; to = to }
+
+-- an edge between two steps of a draft
+module _ (draft : Draft) (from to : ℕ) (rises : from < to) (there : to < length draft.graph.steps) where
+  steps : to < length (content draft).times
+  steps = omega (arith, length_times draft.graph.steps)
+
+  again : has (set_before (sets_of draft.graph.steps) to) from ≡ true → edge_refusal (content draft) from to ≡ Some EdgeTwice
+  again inside = edge_twice (content draft) from to rises steps (has_listed (sets_of draft.graph.steps) draft.edges from to draft.complete inside)
+
+  -- a new edge is one more, and there is room for it
+  module _ (new : has (set_before (sets_of draft.graph.steps) to) from ≡ false) where
+    fresh : edge_refusal (content draft) from to ≡ None
+    fresh = edge_new (content draft) from to rises steps (listed_has (sets_of draft.graph.steps) draft.edges from to draft.listed new)
+
+    module _ (after : Graph) (gained : sets_of after.steps ≡ set (sets_of draft.graph.steps) to (with_step from (set_before (sets_of draft.graph.steps) to))) where
+      one_more : edges_in (sets_of after.steps) ≡ length draft.edges + 1
+      one_more =
+          omega (
+            arith,
+            draft.counted,
+            ap edges_in gained,
+            edges_with (sets_of draft.graph.steps) from to (omega (arith, length_sets draft.graph.steps)) (omega (arith, draft.graph.few)) new,
+          )
+
+      room : length draft.edges < 2016
+      room = omega (arith, one_more, edges_bound (sets_of after.steps) (omega (arith, length_sets after.steps, after.few)) after.rising)
 
 pub returns-then-contains : goal.returns-then-contains
 returns-then-contains c =
     let draft = c.args.self.now in
-    let held = content draft in
     let from = c.args.from in
     let to = c.args.to in
-    let graph = draft.graph in
-    let steps : to < length held.times = omega (arith, length-take graph.count graph.times, graph.sized.0, graph.few) in
-    let inside = found graph.predecessors c.from.result to from true c.from.ensures c.if-contains.ensures.value in
-    let again = has_listed graph.predecessors draft.edges draft.added from to (few_edges draft) draft.complete inside in
-    let said = refused (edge_refusal held from to) tt held (with_edge (record { from = from; to = to }) held) _ (edge_twice held from to (omega arith) steps again) in
-    record { answer = said.0; content = said.1; kept = λ _. refl }
-
--- a new edge is one more, and there is room for it
-module _ (draft : Draft) (after : Graph) (from to : ℕ) (rises : from < to) (there : to < draft.graph.count)
-    (new : has (set_before draft.graph.predecessors to) from ≡ false)
-    (sets : after.predecessors ≡ set draft.graph.predecessors to (with_step from (set_before draft.graph.predecessors to))) where
-  one_more : draft.added + 1 ≡ edges_in after.predecessors
-  one_more =
-      let graph = draft.graph in
-      let held : to < length graph.predecessors = omega (arith, graph.sized.1, graph.few) in
-      omega (arith, draft.counted, ap edges_in sets, edges_with graph.predecessors from to held (omega (arith, graph.few)) new)
-
-  room_left : draft.added < 2016
-  room_left = omega (arith, one_more, edges_bound after.predecessors after.sized.1 after.rising)
-
-pub bounds-self-from-2 : goal.bounds-self-from-2
-bounds-self-from-2 c = omega (arith, room_left c.args.self.now c.add_edge.new.self c.args.from c.args.to (omega arith) (omega arith) (found c.args.self.now.graph.predecessors c.from.result c.args.to c.args.from false c.from.ensures c.if-contains.ensures.value) c.add_edge.ensures.predecessors)
-
-pub overflow_add-self : goal.overflow_add-self
-overflow_add-self c = record { fits = omega (arith, room_left c.args.self.now c.add_edge.new.self c.args.from c.args.to (omega arith) (omega arith) (found c.args.self.now.graph.predecessors c.from.result c.args.to c.args.from false c.from.ensures c.if-contains.ensures.value) c.add_edge.ensures.predecessors) }
+    let held = content draft in
+    let inside = sym (c.contains.ensures.value ∙ ap (λ set. has set from) c.predecessors.ensures) ∙ c.if-contains.true in
+    let said = refused (edge_refusal held from to) tt held (with_edge (edge from to) held) EdgeTwice (again draft from to (omega arith) (omega arith) inside) in
+    record { answer = said.0; content = said.1; kept = refl }
 
 pub invariant_of-self : goal.invariant_of-self
 invariant_of-self c =
     let draft = c.args.self.now in
-    let graph = draft.graph in
     let from = c.args.from in
     let to = c.args.to in
-    let at = c.from-2.result in
-    let edge : Edge = record { from = from; to = to } in
-    let there : to < length graph.predecessors = omega (arith, graph.sized.1, graph.few) in
-    let within : from < 64 = omega (arith, graph.few) in
-    let new = found graph.predecessors c.from.result to from false c.from.ensures c.if-contains.ensures.value in
-    let room : draft.added < length draft.edges = omega (arith, draft.sized, room_left draft c.add_edge.new.self from to (omega arith) (omega arith) new c.add_edge.ensures.predecessors) in
-    let place = sym c.from-2.ensures in
-    let sets = sym c.add_edge.ensures.predecessors in
-    let all = listed_more graph.predecessors from to there within draft.edges draft.added room draft.listed in
-    let only = complete_more graph.predecessors from to there within draft.edges draft.added room draft.complete in
+    let before = sets_of draft.graph.steps in
+    let gained = c.add_edge.ensures.predecessors in
+    let new = sym (c.contains.ensures.value ∙ ap (λ set. has set from) c.predecessors.ensures) ∙ c.if-contains.false in
+    let left = room draft from to (omega arith) (omega arith) new c.add_edge.new.self gained in
+    let is : c.push.new.self ≡ draft.edges ++ (edge from to ∷ []) = search rules in
+    let size = ap length is ∙ length-append draft.edges (edge from to ∷ []) in
+    let there : to < length before = omega (arith, length_sets draft.graph.steps) in
+    let small : from < 64 = omega (arith, draft.graph.few) in
     record {
-      sized = length-set draft.edges at edge ∙ draft.sized;
       ranged = draft.ranged;
-      counted = one_more draft c.add_edge.new.self from to (omega arith) (omega arith) new c.add_edge.ensures.predecessors;
-      listed = subst₂ (λ held k. EachInGraph held (set draft.edges k edge) (draft.added + 1)) sets place all;
-      complete = subst₂ (λ held k. NoOther held (set draft.edges k edge) (draft.added + 1)) sets place only;
+      counted = size ∙ sym (one_more draft from to (omega arith) (omega arith) new c.add_edge.new.self gained);
+      listed = subst₂ EachInGraph (sym gained) (sym is) (listed_more before from to there small draft.edges draft.listed);
+      complete = subst₂ NoOther (sym gained) (sym is) (complete_more before from to there small draft.edges draft.complete);
     }
 
 pub returns : goal.returns
 returns c =
     let draft = c.args.self.now in
-    let held = content draft in
     let from = c.args.from in
     let to = c.args.to in
-    let graph = draft.graph in
-    let edge : Edge = record { from = from; to = to } in
-    let steps : to < length held.times = omega (arith, length-take graph.count graph.times, graph.sized.0, graph.few) in
-    let new = found graph.predecessors c.from.result to from false c.from.ensures c.if-contains.ensures.value in
-    let room : draft.added < length draft.edges = omega (arith, draft.sized, room_left draft c.add_edge.new.self from to (omega arith) (omega arith) new c.add_edge.ensures.predecessors) in
-    let unlisted = listed_has graph.predecessors draft.edges draft.added from to (omega arith) draft.listed new in
-    let said = accepted (edge_refusal held from to) tt held (with_edge edge held) (edge_new held from to (omega arith) steps unlisted) in
-    let times = ap₂ take c.add_edge.ensures.count c.add_edge.ensures.times in
-    let edges = ap (λ k. take (draft.added + 1) (set draft.edges k edge)) c.from-2.ensures ∙ take_more_set draft.edges draft.added edge room in
+    let held = content draft in
+    let new = sym (c.contains.ensures.value ∙ ap (λ set. has set from) c.predecessors.ensures) ∙ c.if-contains.false in
+    let left = room draft from to (omega arith) (omega arith) new c.add_edge.new.self c.add_edge.ensures.predecessors in
+    let is : c.push.new.self ≡ draft.edges ++ (edge from to ∷ []) = search rules in
+    let said = accepted (edge_refusal held from to) tt held (with_edge (edge from to) held) (fresh draft from to (omega arith) (omega arith) new) in
     record {
       answer = said.0;
-      content = same_content refl times edges ∙ said.1;
-      kept = λ impossible. absurd (both_ways true impossible refl);
+      content = same_content refl c.add_edge.ensures.times is ∙ said.1;
+      kept = tt;
     }

@@ -1,30 +1,22 @@
-use Rattle.std.proofs.Common.{◌+◌, ◌<◌, length, set, ap, ◌∙◌, ⊎_elim, arith, length-set}
-use Rattle.std.proofs.lemmas.List.{get_or-set_same, get_or-set_other}
-use Rattle.std.proofs.lemmas.Bool.{cases_eq}
-use Rattle.graph.specs.Graphs.{time_of, Timed, Unused}
+use Rattle.std.proofs.Common.{◌≡◌, ◌+◌, [], ◌∷◌, ◌++◌, length, sym, subst, subst₂, arith, rules, ap, ◌∙◌, length-append}
+use Rattle.std.proofs.lemmas.List.{map-append}
+use Rattle.graph.specs.Graphs.{times_of, sets_of, Timed, Rising}
+use Rattle.graph.specs.Sets.{none}
+use Rattle.graph.specs.declared.graph.Step.{Step}
+use Rattle.graph.proofs.GraphLists.{length_times, rising_more, timed_more}
 use Rattle.graph.proofs.graph.Graph.add_step.Goals as goal
 
 pub invariant_of-self : goal.invariant_of-self
 invariant_of-self c =
     let graph = c.args.self.now in
-    let at = c.from.result in
-    let time = c.args.time in
-    let within : at < length graph.times = omega (arith, graph.sized.0) in
-    let timed : Timed (graph.count + 1) (set graph.times at time) =
-    λ step under.
-    ⊎_elim
-    (λ same. let here = ap (λ k. time_of (set graph.times at time) k) same ∙ get_or-set_same graph.times at time 0 within in omega arith)
-    (λ other. let kept = get_or-set_other graph.times at step time 0 other in let before = graph.timed step (omega arith) in omega arith)
-    (cases_eq step at) in
-    let unused : Unused (graph.count + 1) (set graph.times at time) graph.predecessors =
-    λ step over.
-    let kept = get_or-set_other graph.times at step time 0 (λ same. omega arith) in
-    let before = graph.unused step (omega arith) in
-    (kept ∙ before.0, before.1) in
+    let step : Step = record { time = c.args.time; predecessors = none } in
+    let is : c.push.new.self ≡ graph.steps ++ step ∷ [] = search rules in
+    let size = ap length is ∙ length-append graph.steps (step ∷ []) in
+    let times = ap times_of is ∙ map-append (λ (s : Step). s.time) graph.steps (step ∷ []) in
+    let sets = ap sets_of is ∙ map-append (λ (s : Step). s.predecessors) graph.steps (step ∷ []) in
+    let timed = timed_more (times_of graph.steps) c.args.time (subst (λ n. Timed n (times_of graph.steps)) (sym (length_times graph.steps)) graph.timed) (omega arith) (omega arith) in
     record {
-      sized = (length-set graph.times at time ∙ graph.sized.0, graph.sized.1);
       few = omega arith;
-      timed = timed;
-      rising = graph.rising;
-      unused = unused;
+      timed = subst₂ Timed (ap (λ n. n + 1) (length_times graph.steps) ∙ sym size) (sym times) timed;
+      rising = subst Rising (sym sets) (rising_more (sets_of graph.steps) graph.rising);
     }

@@ -1,7 +1,5 @@
-use Rattle.std.proofs.Common.{◌≡◌, get_or, Some, Decides, sym, ap, ◌∙◌, subst, arith}
-use Rattle.std.specs.Option.{option_map}
-use Rattle.std.proofs.lemmas.Bool.{cond_below}
-use Rattle.graph.specs.Graphs.{time_of, before}
+use Rattle.std.proofs.Common.{◌≡◌, ◌<◌, length, get_or, Some, Decides, sym, ap, ◌∙◌, subst, arith, rules}
+use Rattle.graph.specs.Asked.{time_in, before_in}
 use Rattle.graph.specs.Measures.{visited}
 use Rattle.graph.specs.Paths.{Ancestor}
 use Rattle.graph.specs.Sets.{has, none, both, without_step}
@@ -10,18 +8,15 @@ use Rattle.graph.proofs.Ancestry.{has_ancestors}
 use Rattle.graph.proofs.Order.{before_below}
 use Rattle.graph.proofs.plan.Plan.ancestors.Goals as goal
 
-pub returns-then-step-self : goal.returns-then-step-self
-returns-then-step-self c =
-    let graph = c.args.self.now.graph in
+pub returns-clause-steps : goal.returns-clause-steps
+returns-clause-steps c =
+    let plan = c.args.self.now in
     let step = c.args.step in
-    let under = c.if-step-self.true in
-    let few = graph.few in
+    let under : step < length plan.graph.steps = search rules in
+    let few = plan.graph.few in
     let all = get_or c.walk.result step none in
-    let is : Some all ≡ value_at none both visited (time_of graph.times) (before graph.predecessors) step = c.walk.ensures.steps step under in
+    let is : Some all ≡ value_at none both visited (time_in plan) (before_in plan) step = c.walk.ensures.steps step under in
     let left : c.remove.new.self ≡ without_step step all =
     c.remove.ensures.value ∙ ap (λ i. without_step step (get_or c.walk.result i none)) c.from.ensures in
-    record {
-      value = ap Some left ∙ ap (option_map (without_step step)) is ∙ cond_below step graph.count _ _ under;
-      steps = λ n. subst (λ set. Decides (has set n) (Ancestor (before graph.predecessors) n step)) (sym left)
-          (has_ancestors (before graph.predecessors) (before_below graph.predecessors graph.rising) (time_of graph.times) step (omega arith) (c.walk.ensures.paths step) all is n);
-    }
+    λ n. subst (λ set. Decides (has set n) (Ancestor (before_in plan) n step)) (sym left)
+    (has_ancestors (before_in plan) (before_below _ plan.graph.rising) (time_in plan) step (omega arith) (c.walk.ensures.paths step) all is n)
