@@ -10,7 +10,7 @@ use cores::{Supply, WIDEST};
 use graph::Plan;
 
 // What the marking test says of a plan on a supply.
-#[derive(Clone, Copy)]
+#[derive(Clone, Copy, PartialEq, Eq, Debug)]
 pub struct Certificate {
     pub volume: u32,
     pub length: u32,

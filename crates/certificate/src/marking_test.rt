@@ -7,7 +7,7 @@ use cores::{Supply, WIDEST};
 
 // A test of a job: the ticks in which it has to be done, from `first` up to the one before `deadline`, and
 // the `length` of its longest path, the greatest sum of worst-case times along it.
-#[derive(Clone, Copy)]
+#[derive(Clone, Copy, PartialEq, Eq, Debug)]
 pub struct MarkingTest {
     pub first: u32,
     pub deadline: u32,

@@ -1,5 +1,5 @@
 // The marking test on worked numbers and at its edges.
-use crate::{MarkingTest, NotCertified, certify};
+use crate::{Certificate, MarkingTest, NotCertified, certify};
 use cores::{Block, Flat, HoldBack, Ladder, Window};
 use graph::{Draft, Plan, Refusal};
 use std::process::Abort;
@@ -153,11 +153,14 @@ fn plans_are_certified(rt: HostRuntime) -> Result<(), Fail> {
     let plan = hide()?;
     let whole = [block(2, 10)];
     let two = certify(&plan, &Ladder::new(&whole));
-    assert_eq!(rt; two.volume, 13);
-    assert_eq!(rt; two.length, 7);
-    assert_eq!(rt; two.deadline, 10);
-    assert_eq!(rt; two.least, 13);
-    assert!(rt; two.certified);
+    let wanted = Certificate {
+        volume: 13,
+        length: 7,
+        deadline: 10,
+        least: 13,
+        certified: true,
+    };
+    assert_eq!(rt; two, wanted);
     assert_eq!(rt; two.refusal(), None);
     let shorter = [block(2, 9)];
     let nine = certify(&plan, &Ladder::new(&shorter));

@@ -112,8 +112,11 @@ fn layers_in_both_orders(rt: HostRuntime) {
     assert_eq!(rt; late_first.width_at(3), 4);
     assert_eq!(rt; late_first.width_at(5), 1);
     assert_eq!(rt; under.by(), 2);
-    assert_eq!(rt; under.below().window().from, 5);
-    assert_eq!(rt; under.below().window().until, 6);
-    assert_eq!(rt; under.below().window().cores, 3);
+    let window = Window {
+        cores: 3,
+        from: 5,
+        until: 6,
+    };
+    assert_eq!(rt; under.below().window(), window);
     assert_eq!(rt; under.below().below().below().blocks().len(), 1);
 }

@@ -1,5 +1,6 @@
 // The cores that a file grants, and the certificates of files.
 use crate::{FileCores, certify_file, vaxerku_certify};
+use certificate::Certificate;
 use cores::{Block, Supply};
 use planfile::{Layers, Window};
 use std::process::Abort;
@@ -108,11 +109,14 @@ fn certificate_of_a_file(rt: HostRuntime) -> Result<(), Fail> {
         assert!(rt; false);
         return Ok(());
     };
-    assert_eq!(rt; certificate.volume, 13);
-    assert_eq!(rt; certificate.length, 7);
-    assert_eq!(rt; certificate.deadline, 10);
-    assert_eq!(rt; certificate.least, 13);
-    assert_eq!(rt; certificate.certified, true);
+    let wanted = Certificate {
+        volume: 13,
+        length: 7,
+        deadline: 10,
+        least: 13,
+        certified: true,
+    };
+    assert_eq!(rt; certificate, wanted);
     Ok(())
 }
 

@@ -1,5 +1,5 @@
 // Finishing a draft.
-ghost use Rattle.std.specs.Prelude.{◌≡◌};
+ghost use Rattle.std.specs.Prelude.{◌≡◌, IfOk};
 ghost use Rattle.graph.specs.Drafts.{content, FinishedBy, FinishLaw};
 ghost use Rattle.graph.specs.Implied.{first_implied};
 
@@ -32,6 +32,7 @@ impl Draft {
     pub fn finish(&self) -> Result<Plan, Refusal>
         ensures answer { FinishedBy (content self.now) result }
         ensures law { FinishLaw (content self.now) }
+        ensures graph { IfOk result (λ plan. plan.graph ≡ self.now.graph) }
     {
         let Some(deadline) = self.deadline else {
             return Err(Refusal::Incomplete);

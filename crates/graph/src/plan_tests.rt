@@ -50,10 +50,7 @@ fn draft_of(deadline: u16, times: &[u16], edges: &[(u8, u8)]) -> Result<Draft, R
 
 // What finishing the draft refuses by.
 fn refusal_of(draft: &Draft) -> Option<Refusal> {
-    match draft.finish() {
-        Ok(_) => None,
-        Err(refusal) => Some(refusal),
-    }
+    draft.finish().err()
 }
 
 // Six steps of a hide: scan, three searches, nesting, knife path.

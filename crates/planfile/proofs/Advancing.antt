@@ -45,7 +45,7 @@ module _ {places : ℕ} {file : List ℕ} {reader : Reader} {here : Records} (up
   bad_front bad some (inr ((kind, body, after, laid, none), is)) =
       bad_here bad some (ap (λ b. b.place) is) (inr (inl (kind, body, after, laid, cond-true _ _ _ none ∙ ap Some (sym (ap (λ b. b.cause) is)))))
 
-  module _ {place : ℕ} {found : Record} {after : Records} (given : GivesRecord here place found after) {answer : Result (Unit {0}) Cause} {next : Reader}
+  module _ {found : Record} {after : Records} (given : GivesRecord here found after) {answer : Result (Unit {0}) Cause} {next : Reader}
       (took : Takes reader found answer next) where
     abbrev kind : ℕ
     kind = kind_number found.kind
@@ -62,8 +62,8 @@ module _ {places : ℕ} {file : List ℕ} {reader : Reader} {here : Records} (up
         ∙ ap₂ (λ last reading. kind_causes last kind (length body) ++ said_causes places reading (said_in found)) upto.read.last upto.read.reading
 
     -- the record is refused, by its kind and length, or by what it says
-    pub bad_taken : (cause : Cause) → answer ≡ Err cause → BadRecord places file (fault cause place)
-    bad_taken cause refused = bad_here (fault cause place) some given.at (inr (by (first_cause (kind_causes_in reader found)) refl)) where
+    pub bad_taken : (cause : Cause) → answer ≡ Err cause → BadRecord places file (fault cause found.place)
+    bad_taken cause refused = bad_here (fault cause found.place) some given.at (inr (by (first_cause (kind_causes_in reader found)) refl)) where
       told : first_cause (causes places upto.earlier kind (length body) (said_in found)) ≡ Some cause
       told = ap first_cause (sym same_causes) ∙ was_some (first_cause (causes_in reader found)) (sym refused ∙ took.answered)
 

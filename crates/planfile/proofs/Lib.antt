@@ -8,3 +8,4 @@ pub mod Lookups
 pub mod Endings
 pub mod Concluding
 pub mod Naming
+pub mod Chains

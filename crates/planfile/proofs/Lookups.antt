@@ -72,16 +72,16 @@ from_start kind before entries file is =
     record { later = entries; earlier = []; parts = sym (append-nil entries); bytes = is; count = omega arith }
 
 -- what comes next, by whether it is a record
-pub given_read : (here after : Records) (next : Result (ℕ × Record) Fault) (found : ℕ × Record) → next ≡ Ok found
-    → NextRecord here (Some next) after → GivesRecord here found.0 found.1 after
+pub given_read : (here after : Records) (next : Result Record Fault) (found : Record) → next ≡ Ok found
+    → NextRecord here (Some next) after → GivesRecord here found after
 given_read here after next found is went = subst (λ n. NextRecord here (Some n) after) is went
 
-pub given_record : (here after : Records) (next : Result (ℕ × Record) Fault) (found : ℕ × Record) → result_ok next ≡ Some found
-    → NextRecord here (Some next) after → GivesRecord here found.0 found.1 after
+pub given_record : (here after : Records) (next : Result Record Fault) (found : Record) → result_ok next ≡ Some found
+    → NextRecord here (Some next) after → GivesRecord here found after
 given_record here after (Ok given) found is went = given_read here after (Ok given) found (cc) went
 given_record here after (Err bad) found is went = absurd (cc)
 
-pub given_fault : (here after : Records) (next : Result (ℕ × Record) Fault) (bad : Fault) → next ≡ Err bad
+pub given_fault : (here after : Records) (next : Result Record Fault) (bad : Fault) → next ≡ Err bad
     → NextRecord here (Some next) after → GivesFault here bad after
 given_fault here after next bad is went = subst (λ n. NextRecord here (Some n) after) is went
 
@@ -129,12 +129,12 @@ module _ {kind before : ℕ} {entries : List Entry} {rest : List ℕ} {left : �
 
 -- a file of records has no fault
 pub no_fault : {kind before : ℕ} {entries : List Entry} {left : ℕ} (here after : Records) → Onward kind before entries here.rest.now left
-    → (found : Result (ℕ × Record) Fault) → result_ok found ≡ None → NextRecord here (Some found) after → ⊥
+    → (found : Result Record Fault) → result_ok found ≡ None → NextRecord here (Some found) after → ⊥
 no_fault here after on (Ok found) none went = absurd (cc)
 no_fault here after on (Err bad) none went = never_bad on _ bad went.some went.front
 
 module _ {kind before : ℕ} {entries : List Entry} {here : Records} {left : ℕ} (on : Onward kind before entries here.rest.now left)
-    {place : ℕ} {found : Record} {after : Records} (given : GivesRecord here place found after) where
+    {found : Record} {after : Records} (given : GivesRecord here found after) where
   first : Front entries on.earlier here.rest.now
   first = front on (omega (arith, ap length given.laid, encoded_size (kind_number found.kind) found.body.now after.rest.now))
 
@@ -175,7 +175,7 @@ module _ {kind before : ℕ} {entries : List Entry} {here : Records} {left : ℕ
   }
 
   -- or it is the one
-  its_place : here.file.now ≡ file_of entries → place ≡ length (file_of on.earlier)
+  its_place : here.file.now ≡ file_of entries → found.place ≡ length (file_of on.earlier)
   its_place is =
       let split : here.file.now ≡ (file_of on.earlier ++ encoded (kind_of first.entry) (body_of first.entry)) ++ file_of first.later =
       is ∙ ap file_of first.parts ∙ file_append first.later (first.entry ∷ on.earlier) in
@@ -190,7 +190,7 @@ module _ {kind before : ℕ} {entries : List Entry} {here : Records} {left : ℕ
         ap length first.laid,
       )
 
-  pub this_one : here.file.now ≡ file_of entries → kind_number found.kind ≡ kind → left ≡ 0 → slice_get (of_kind kind entries) before ≡ Some (place, found.body.now)
+  pub this_one : here.file.now ≡ file_of entries → kind_number found.kind ≡ kind → left ≡ 0 → slice_get (of_kind kind entries) before ≡ Some (found.place, found.body.now)
   this_one is same none =
       let more = more_of_kind kind first.later (first.entry ∷ on.earlier) in
       let at : before ≡ length (of_kind kind on.earlier) = omega (arith, on.count, none) in
@@ -199,7 +199,7 @@ module _ {kind before : ℕ} {entries : List Entry} {here : Records} {left : ℕ
       ∙ ap₂ (λ p b. Some (p, b)) (sym (its_place is)) is_body
 
 -- a record that was found is in the file
-pub within_file : {here after : Records} {place : ℕ} {found : Record} → GivesRecord here place found after → length here.rest.now ≤ length here.file.now
-    → place + 4 + length found.body.now ≤ length here.file.now
-within_file {here} {after} {place} {found} given within =
+pub within_file : {here after : Records} {found : Record} → GivesRecord here found after → length here.rest.now ≤ length here.file.now
+    → found.place + 4 + length found.body.now ≤ length here.file.now
+within_file {here} {after} {found} given within =
     omega (arith, within, given.at, ap length given.laid, encoded_size (kind_number found.kind) found.body.now after.rest.now)

@@ -229,7 +229,7 @@ module _ (file : List ℕ) (number : ℕ) (law : FileLaw 64 file) (answer : Resu
     by (Ok entries) taken = absurd (cc (sym none ∙ ap result_ok taken))
     by (Err bad) taken = refl
 
-  module _ (layers : Layers) (some : result_ok answer ≡ Some layers) (found : Option (ℕ × Record))
+  module _ (layers : Layers) (some : result_ok answer ≡ Some layers) (found : Option Record)
       (stands : (entries : List Entry) → file ≡ file_of entries → Found (slice_get (of_kind 2 entries) number) found) where
     accepted : (entries : List Entry) × (outcome 64 file ≡ Ok entries)
     accepted = by (outcome 64 file) refl where
@@ -243,12 +243,12 @@ module _ (file : List ℕ) (number : ℕ) (law : FileLaw 64 file) (answer : Resu
     pub none_found : found ≡ None → label_of file number ≡ None
     none_found none = label_found file number accepted.0 accepted.1 ∙ ap (option_map behind_time) (subst (Found (slice_get (of_kind 2 accepted.0) number)) none found_here)
 
-    module _ (place : ℕ) (named : Record) (one : found ≡ Some (place, named)) where
-      there : slice_get (of_kind 2 accepted.0) number ≡ Some (place, named.body.now)
+    module _ (named : Record) (one : found ≡ Some named) where
+      there : slice_get (of_kind 2 accepted.0) number ≡ Some (named.place, named.body.now)
       there = subst (Found (slice_get (of_kind 2 accepted.0) number)) one found_here
 
-      pub label_here : label_of file number ≡ Some (place + 6, drop 2 named.body.now)
+      pub label_here : label_of file number ≡ Some (named.place + 6, drop 2 named.body.now)
       label_here = label_found file number accepted.0 accepted.1 ∙ ap (option_map behind_time) there
 
       pub never_short : length named.body.now < 2 → ⊥
-      never_short short = omega (arith, short, long_enough file number accepted.0 accepted.1 place named.body.now there)
+      never_short short = omega (arith, short, long_enough file number accepted.0 accepted.1 named.place named.body.now there)

@@ -28,14 +28,14 @@ UnknownFront bytes = (kind : ℕ) × (body : List ℕ) × (after : List ℕ) × 
 abbrev pub BadFront : List ℕ → ℕ → Fault → Type 0
 BadFront bytes place bad = ((cut_short bytes ≡ true) × (bad ≡ fault CutShort place)) ⊎ (UnknownFront bytes × (bad ≡ fault UnknownKind place))
 
--- The record at the front of some bytes and the bytes after it, or why there is none.
+-- The record at the front of some bytes, which begin at a place of the file, and the bytes after it, or why there is none.
 abbrev pub Cut : List ℕ → ℕ → Result (Record × Bor (List ℕ)) Fault → Type 0
-Cut bytes place (Ok (found, after)) = bytes ≡ encoded (kind_number found.kind) found.body.now ++ after.now
+Cut bytes place (Ok (found, after)) = (found.place ≡ place) × (bytes ≡ encoded (kind_number found.kind) found.body.now ++ after.now)
 Cut bytes place (Err bad) = BadFront bytes place bad
 
--- The record at the front of what is left of a file comes next, with its place in the file, and what is behind it is left.
-pub record GivesRecord (before : Records) (place : ℕ) (found : Record) (after : Records) : Type 0 where
-  pub at : place ≡ length before.file.now - length before.rest.now
+-- The record at the front of what is left of a file comes next, and what is behind it is left.
+pub record GivesRecord (before : Records) (found : Record) (after : Records) : Type 0 where
+  pub at : found.place ≡ length before.file.now - length before.rest.now
   pub laid : before.rest.now ≡ encoded (kind_number found.kind) found.body.now ++ after.rest.now
   pub file : after.file.now ≡ before.file.now
 
@@ -46,9 +46,9 @@ pub record GivesFault (before : Records) (bad : Fault) (after : Records) : Type 
   pub ended : after.rest.now ≡ []
 
 -- The next of a file's records: none at the end, and else the first that is left, or why there is none.
-abbrev pub NextRecord : Records → Option (Result (ℕ × Record) Fault) → Records → Type 0
+abbrev pub NextRecord : Records → Option (Result Record Fault) → Records → Type 0
 NextRecord before None after = (before.rest.now ≡ []) × (after.rest.now ≡ [])
-NextRecord before (Some (Ok (place, found))) after = GivesRecord before place found after
+NextRecord before (Some (Ok found)) after = GivesRecord before found after
 NextRecord before (Some (Err bad)) after = GivesFault before bad after
 
 -- What a record says, in words.
@@ -130,15 +130,15 @@ pub record ReadTo (places : ℕ) (entries : List Entry) (reader : Reader) : Type
   pub last : last_number reader.last ≡ last_kind entries
   pub size : length reader.blocks.now ≡ places
 
--- The record that was looked for, with its place, or none.
-abbrev pub Found : Option (ℕ × List ℕ) → Option (ℕ × Record) → Type 0
+-- The record that was looked for, or none.
+abbrev pub Found : Option (ℕ × List ℕ) → Option Record → Type 0
 Found looked None = looked ≡ None
-Found looked (Some (place, found)) = looked ≡ Some (place, found.body.now)
+Found looked (Some found) = looked ≡ Some (found.place, found.body.now)
 
 -- A record that was found is in the file, with its header.
-abbrev pub Within : List ℕ → Option (ℕ × Record) → Type 0
+abbrev pub Within : List ℕ → Option Record → Type 0
 Within file None = Unit {0}
-Within file (Some (place, found)) = place + 4 + length found.body.now ≤ length file
+Within file (Some found) = found.place + 4 + length found.body.now ≤ length file
 
 -- What becomes of a file whose records were all read: its plan, or why it is refused, and the law of it.
 abbrev pub Concluded : ℕ → List ℕ → List Entry → Result Plan Fault → Type 0

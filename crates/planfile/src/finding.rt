@@ -10,20 +10,13 @@ use crate::kind::Kind;
 use crate::record::Record;
 use crate::records::Records;
 
-// The record of a kind that has so many of its kind before it, and the byte at which it begins.
-pub(crate) fn find(file: &[u8], kind: Kind, before: usize) -> Option<(usize, Record<'_>)>
+// The record of a kind that has so many of its kind before it.
+pub(crate) fn find(file: &[u8], kind: Kind, before: usize) -> Option<Record<'_>>
     ensures found { (entries : List Entry) → file.now ≡ file_of entries → Found (slice_get (of_kind (kind_number kind) entries) before) result }
     ensures within { Within file.now result }
 {
-    let mut left = before;
-    for next in Records::new(file) {
-        let (place, record) = next.ok()?;
-        if record.kind == kind {
-            if left == 0 {
-                return Some((place, record));
-            }
-            left -= 1;
-        }
-    }
-    None
+    Records::new(file)
+        .map_while(Result::ok)
+        .filter(|record| record.kind == kind)
+        .nth(before)
 }

@@ -22,11 +22,11 @@ pub fn label(file: &[u8], step: u8) -> Option<(usize, &[u8])>
     let mut plan = Plan::empty();
     let mut blocks = [NO_BLOCK; MOST_BLOCKS];
     read(file, &mut plan, &mut blocks).ok()?;
-    let (place, record) = find(file, Kind::Step, usize::from(step))?;
+    let record = find(file, Kind::Step, usize::from(step))?;
     let [_, _, label @ ..] = record.body else {
         return None;
     };
-    Some((place + LABEL_AT, label))
+    Some((record.place + LABEL_AT, label))
 }
 
 // Whether each byte of a label is a printed character and no blank.

@@ -165,8 +165,8 @@ impl<'a> Reader<'a> {
         match self.draft.finish() {
             Ok(plan) => Ok(plan),
             Err(Refusal::ImpliedEdge(edge)) => {
-                let (place, _) = find(file, Kind::Edge, usize::from(edge)).ok_or(incomplete)?;
-                Err(Cause::ImpliedEdge.at(place))
+                let record = find(file, Kind::Edge, usize::from(edge)).ok_or(incomplete)?;
+                Err(Cause::ImpliedEdge.at(record.place))
             }
             Err(_) => Err(incomplete),
         }

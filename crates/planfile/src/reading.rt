@@ -18,8 +18,10 @@ fn read_whole(file: &[u8], list: &mut [Block]) -> Result<Whole, Fault>
 {
     let mut reader = Reader::new(list);
     for next in Records::new(file) {
-        let (place, record) = next?;
-        reader.take(&record).map_err(|cause| cause.at(place))?;
+        let record = next?;
+        reader
+            .take(&record)
+            .map_err(|cause| cause.at(record.place))?;
     }
     let plan = reader.finish(file)?;
     Ok(Whole {

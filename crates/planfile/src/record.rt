@@ -6,6 +6,8 @@ use crate::kind::Kind;
 
 #[derive(Clone, Copy)]
 pub(crate) struct Record<'a> {
+    // the byte of the file at which it begins
+    pub(crate) place: usize,
     pub(crate) kind: Kind,
     pub(crate) body: &'a [u8],
 }
@@ -22,5 +24,5 @@ pub(crate) fn cut(bytes: &[u8], place: usize) -> Result<(Record<'_>, &[u8]), Fau
         return Err(Cause::CutShort.at(place));
     };
     let kind = Kind::try_from(u16::from_le_bytes([*k0, *k1])).map_err(|cause| cause.at(place))?;
-    Ok((Record { kind, body }, after))
+    Ok((Record { place, kind, body }, after))
 }

@@ -3,7 +3,7 @@ ghost use Rattle.std.specs.Prelude.{◌≤◌, length};
 use crate::cause::Fault;
 use crate::record::{Record, cut};
 
-// The records of a file one after another, each with the byte at which it begins, up to the file's end or the first fault.
+// The records of a file one after another, up to the file's end or the first fault.
 #[derive(Drop)]
 pub(crate) struct Records<'a> {
     file: &'a [u8],
@@ -26,13 +26,13 @@ impl<'a> Iterator for Records<'a> {
     ghost use Rattle.std.specs.Iterator.{at_most};
     ghost use Rattle.planfile.specs.Cutting.{NextRecord};
 
-    type Item = Result<(usize, Record<'a>), Fault>;
+    type Item = Result<Record<'a>, Fault>;
 
     ghost next_gives = { NextRecord };
 
     ghost remaining = { λ records. at_most (length records.rest.now) };
 
-    fn next(&mut self) -> Option<Result<(usize, Record<'a>), Fault>> {
+    fn next(&mut self) -> Option<Result<Record<'a>, Fault>> {
         if self.rest.is_empty() {
             return None;
         }
@@ -40,7 +40,7 @@ impl<'a> Iterator for Records<'a> {
         match cut(self.rest, place) {
             Ok((record, after)) => {
                 self.rest = after;
-                Some(Ok((place, record)))
+                Some(Ok(record))
             }
             Err(fault) => {
                 self.rest = &[];

@@ -1,7 +1,7 @@
 // Files that are refused: by which number, at which byte, and what they leave behind.
 use crate::test_files::Part::*;
 use crate::test_files::{HIDE, OLD_BLOCK, Part, add, file_of, refusal_in};
-use crate::{Cause, read};
+use crate::{Cause, NO_BLOCK, read};
 use graph::Plan;
 use std::alloc::Global;
 use std::process::Abort;
@@ -23,9 +23,7 @@ fn refused(
     assert_eq!(rt; refusal_in(answer), Some((number, place)), "case {case}");
     assert!(rt; plan.is_empty(), "case {case}");
     assert_eq!(rt; (plan.deadline(), plan.volume()), (0, 0), "case {case}");
-    for block in blocks {
-        assert_eq!(rt; (block.cores, block.ticks), (0, 0), "case {case}");
-    }
+    assert_eq!(rt; blocks, [NO_BLOCK; 64], "case {case}");
     Ok(())
 }
 

@@ -41,9 +41,12 @@ pub(crate) const HIDE: &[u8] = b"\x02\0\x01\0\x0a\0\
     \x02\0\x03\0\x04\x05\
     \x03\0\x04\0\x02\x0a\0";
 
-// The cores and ticks of one of many blocks: no two neighbours are the same.
-pub(crate) fn block_at(place: usize) -> (u8, u16) {
-    ((place % 64) as u8 + 1, (place % 20_000) as u16 + 1)
+// One of many blocks: no two neighbours are the same.
+pub(crate) fn block_at(place: usize) -> Block {
+    Block {
+        cores: (place % 64) as u8 + 1,
+        ticks: (place % 20_000) as u16 + 1,
+    }
 }
 
 // The kind is a number, since tests write kinds that there are not.
@@ -64,9 +67,9 @@ fn add_step(file: &mut Vec<u8>, time: u16, label: &[u8]) -> Result<(), AllocErro
     file.extend_from_slice(label)
 }
 
-fn add_block(file: &mut Vec<u8>, cores: u8, ticks: u16) -> Result<(), AllocError> {
-    let [t0, t1] = ticks.to_le_bytes();
-    add_record(file, 4, &[cores, t0, t1])
+fn add_block(file: &mut Vec<u8>, block: Block) -> Result<(), AllocError> {
+    let [t0, t1] = block.ticks.to_le_bytes();
+    add_record(file, 4, &[block.cores, t0, t1])
 }
 
 fn add_hold_back(file: &mut Vec<u8>, cores: u8, from: u16, until: u16) -> Result<(), AllocError> {
@@ -84,8 +87,7 @@ fn add_steps(file: &mut Vec<u8>, count: u8) -> Result<(), AllocError> {
 
 fn add_blocks(file: &mut Vec<u8>, count: usize) -> Result<(), AllocError> {
     for place in 0..count {
-        let (cores, ticks) = block_at(place);
-        add_block(file, cores, ticks)?;
+        add_block(file, block_at(place))?;
     }
     Ok(())
 }
@@ -96,7 +98,7 @@ pub(crate) fn add(file: &mut Vec<u8>, part: Part<'_>) -> Result<(), AllocError> 
         Part::Deadline(ticks) => add_record(file, 1, &ticks.to_le_bytes()),
         Part::Step(time, label) => add_step(file, time, label),
         Part::Edge(from, to) => add_record(file, 3, &[from, to]),
-        Part::Block(cores, ticks) => add_block(file, cores, ticks),
+        Part::Block(cores, ticks) => add_block(file, Block { cores, ticks }),
         Part::HoldBack(cores, from, until) => add_hold_back(file, cores, from, until),
         Part::Late(ticks) => add_record(file, 6, &ticks.to_le_bytes()),
         Part::Record(kind, body) => add_record(file, kind, body),

@@ -1,8 +1,7 @@
 // Files that are accepted: the plan, the blocks and the layers that are read.
-use crate::reading::NO_BLOCK;
 use crate::test_files::Part::*;
 use crate::test_files::{HIDE, OLD_BLOCK, Part, add, block_at, file_of, refusal_in};
-use crate::{Layers, Window, read};
+use crate::{Layers, NO_BLOCK, Window, read};
 use graph::{Plan, StepSet};
 use std::alloc::Global;
 use std::process::Abort;
@@ -14,9 +13,9 @@ fn filled(rt: &impl Abort, list: &[cores::Block], count: usize) {
         let wanted = if place < count {
             block_at(place)
         } else {
-            (0, 0)
+            NO_BLOCK
         };
-        assert_eq!(rt; (block.cores, block.ticks), wanted);
+        assert_eq!(rt; *block, wanted);
     }
 }
 
@@ -40,8 +39,11 @@ fn hide_is_read(rt: HostRuntime) {
     }
     assert_eq!(rt; plan.time(6), None);
     assert_eq!(rt; plan.predecessors(6), None);
-    assert_eq!(rt; (blocks[0].cores, blocks[0].ticks), (2, 10));
-    assert_eq!(rt; (blocks[1].cores, blocks[1].ticks), (0, 0));
+    let read_block = cores::Block {
+        cores: 2,
+        ticks: 10,
+    };
+    assert_eq!(rt; blocks, [read_block, NO_BLOCK]);
 }
 
 #[test]
@@ -154,7 +156,7 @@ struct Case<'a> {
     parts: &'a [Part<'a>],
     deadline: u16,
     time: u16,
-    block: (u8, u16),
+    block: cores::Block,
     layers: Layers,
 }
 
@@ -168,7 +170,7 @@ fn is_read(rt: &impl Abort, n: usize, file: &[u8], case: &Case<'_>) -> Result<()
     );
     assert_eq!(rt; plan.deadline(), case.deadline, "case {n}");
     assert_eq!(rt; plan.time(0), Some(case.time), "case {n}");
-    assert_eq!(rt; (blocks[0].cores, blocks[0].ticks), case.block, "case {n}");
+    assert_eq!(rt; blocks, [case.block], "case {n}");
     Ok(())
 }
 
@@ -179,7 +181,7 @@ fn values_and_layers(rt: HostRuntime) -> Result<(), Fail> {
             parts: &[Deadline(1), Step(1, b""), Block(1, 1)],
             deadline: 1,
             time: 1,
-            block: (1, 1),
+            block: cores::Block { cores: 1, ticks: 1 },
             layers: Layers::default(),
         },
         Case {
@@ -192,7 +194,10 @@ fn values_and_layers(rt: HostRuntime) -> Result<(), Fail> {
             ],
             deadline: 20_000,
             time: 20_000,
-            block: (64, 20_000),
+            block: cores::Block {
+                cores: 64,
+                ticks: 20_000,
+            },
             layers: Layers {
                 hold_back: Some(Window {
                     cores: 64,
@@ -206,7 +211,7 @@ fn values_and_layers(rt: HostRuntime) -> Result<(), Fail> {
             parts: &[Deadline(2), Step(3, b""), Block(4, 5), HoldBack(1, 0, 1)],
             deadline: 2,
             time: 3,
-            block: (4, 5),
+            block: cores::Block { cores: 4, ticks: 5 },
             layers: Layers {
                 hold_back: Some(Window {
                     cores: 1,
@@ -220,7 +225,7 @@ fn values_and_layers(rt: HostRuntime) -> Result<(), Fail> {
             parts: &[Deadline(2), Step(3, b""), Block(4, 5), Late(1)],
             deadline: 2,
             time: 3,
-            block: (4, 5),
+            block: cores::Block { cores: 4, ticks: 5 },
             layers: Layers {
                 hold_back: None,
                 late: Some(1),
@@ -237,7 +242,10 @@ fn values_and_layers(rt: HostRuntime) -> Result<(), Fail> {
             ],
             deadline: 0x0201,
             time: 0x0403,
-            block: (0x05, 0x0706),
+            block: cores::Block {
+                cores: 0x05,
+                ticks: 0x0706,
+            },
             layers: Layers {
                 hold_back: Some(Window {
                     cores: 0x08,

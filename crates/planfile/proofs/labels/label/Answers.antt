@@ -10,8 +10,8 @@ returns-in_err-ok c =
     let none : label_of file c.args.step ≡ None = none_refused file c.args.step c.read.ensures.law c.read.result c.read.ensures.answer (search rules) in
     record { label = search rules; law = label_law file c.args.step c.read.ensures.law }
 
-pub returns-in_err-place : goal.returns-in_err-place
-returns-in_err-place c =
+pub returns-in_err-record : goal.returns-in_err-record
+returns-in_err-record c =
     let file = c.args.file.now in
     let stands = rw c.from.ensures at c.find.ensures.found in
     let none : label_of file c.args.step ≡ None = none_found file c.args.step c.read.ensures.law c.read.result c.read.ensures.answer c.in_ok-ok.field-0 (search rules) c.find.result stands (search rules) in
@@ -22,16 +22,16 @@ returns-in_default c =
     let file = c.args.file.now in
     let stands = rw c.from.ensures at c.find.ensures.found in
     absurd (never_short file c.args.step c.read.ensures.law c.read.result c.read.ensures.answer c.in_ok-ok.field-0 (search rules) c.find.result stands
-    c.in_ok-place.place c.in_ok-place.record c.in_ok-place.was c.in_default.len_below)
+    c.in_ok-record.record c.in_ok-record.was c.in_default.len_below)
 
 pub returns : goal.returns
 returns c =
     let file = c.args.file.now in
     let stands = rw c.from.ensures at c.find.ensures.found in
-    let body = c.in_ok-place.record.body.now in
+    let body = c.in_ok-record.record.body.now in
     record {
       label = label_here file c.args.step c.read.ensures.law c.read.result c.read.ensures.answer c.in_ok-ok.field-0 (search rules) c.find.result stands
-          c.in_ok-place.place c.in_ok-place.record c.in_ok-place.was
-          ∙ ap (λ label. Some (c.in_ok-place.place + 6, label)) (sym (take_all (length body - 2) (drop 2 body) (simp length-drop (omega arith))));
+          c.in_ok-record.record c.in_ok-record.was
+          ∙ ap (λ label. Some (c.in_ok-record.record.place + 6, label)) (sym (take_all (length body - 2) (drop 2 body) (simp length-drop (omega arith))));
       law = label_law file c.args.step c.read.ensures.law;
     }

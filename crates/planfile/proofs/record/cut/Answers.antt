@@ -18,6 +18,8 @@ pub returns : goal.returns
 returns c =
     let bytes = c.args.bytes.now in
     let body = c.in-Some.body.now in
-    let after = c.in-Some.after.now in
-    from_parts bytes body after (kind_number c.in_ok-kind.kind) (search rules) (search rules) (search rules) (search rules) (search rules)
-    (split_again bytes body after _ c.in-Some.ensures.cases)
+    let after = c.in-Some.after.now in (
+      search rules,
+      from_parts bytes body after (kind_number c.in_ok-kind.kind) (search rules) (search rules) (search rules) (search rules) (search rules)
+          (split_again bytes body after _ c.in-Some.ensures.cases),
+    )

@@ -26,19 +26,19 @@ returns-in-Err c = λ places entries bytes read.
     rw c.at-incomplete.ensures (lacking_part places c.args.file.now (λ i. (c.type_inv.file i).fits) entries c.args.self.now bytes read c.if-self-eq0.false refused.law
     (lacks (content c.args.self.now.draft) c.in-Err.field-0 refused.answer other))
 
-pub returns-in_err-place-in-Err-ImpliedEdge : goal.returns-in_err-place-in-Err-ImpliedEdge
-returns-in_err-place-in-Err-ImpliedEdge c = λ places entries bytes read.
+pub returns-in_err-record-in-Err-ImpliedEdge : goal.returns-in_err-record-in-Err-ImpliedEdge
+returns-in_err-record-in-Err-ImpliedEdge c = λ places entries bytes read.
     let refused = c.in-Err-ImpliedEdge in
     let none : c.find.result ≡ None = search rules in
     absurd (never_lost places c.args.file.now (λ i. (c.type_inv.file i).fits) entries c.args.self.now bytes read c.if-self-eq0.false refused.ensures.law
     refused.edge (refused.ensures.answer ∙ ap Some refused.field-0-is)
     (ap (slice_get (of_kind 3 entries)) (sym c.from.ensures) ∙ subst (Found (slice_get (of_kind 3 entries) c.from.result)) none (c.find.ensures.found entries bytes)))
 
-pub returns-in_ok-place-in-Err-ImpliedEdge : goal.returns-in_ok-place-in-Err-ImpliedEdge
-returns-in_ok-place-in-Err-ImpliedEdge c = λ places entries bytes read.
+pub returns-in_ok-record-in-Err-ImpliedEdge : goal.returns-in_ok-record-in-Err-ImpliedEdge
+returns-in_ok-record-in-Err-ImpliedEdge c = λ places entries bytes read.
     let refused = c.in-Err-ImpliedEdge in
-    let found = c.in_ok-place-in-Err-ImpliedEdge in
-    let one : c.find.result ≡ Some (found.place, found.field-0-1) = search rules in
+    let found = c.in_ok-record-in-Err-ImpliedEdge in
+    let one : c.find.result ≡ Some found.record = search rules in
     rw c.at.ensures (implied_at places c.args.file.now (λ i. (c.type_inv.file i).fits) entries c.args.self.now bytes read c.if-self-eq0.false refused.ensures.law
-    refused.edge (refused.ensures.answer ∙ ap Some refused.field-0-is) found.place found.field-0-1.body.now
+    refused.edge (refused.ensures.answer ∙ ap Some refused.field-0-is) found.record.place found.record.body.now
     (ap (slice_get (of_kind 3 entries)) (sym c.from.ensures) ∙ subst (Found (slice_get (of_kind 3 entries) c.from.result)) one (c.find.ensures.found entries bytes)))
