@@ -3,7 +3,7 @@
 
 ghost use Rattle.std.specs.Prelude.{◌≡◌, ◌≤◌, length, take, IfOk, IfSome};
 ghost use Rattle.firmware.specs.Certificates.{file_certificate};
-ghost use Rattle.firmware.specs.Text.{bytes_of, laid_out, text_of};
+ghost use Rattle.firmware.specs.Text.{bytes_of, content, laid_out, text_of};
 
 use certificate::Certificate;
 use firmware::{Text, certify_file, lay_out};
@@ -31,15 +31,31 @@ Reads a plan file from standard input, the first 65,536 bytes of it, and prints 
 A file that cannot be read as a plan is answered by one line, 'refused N at P':
 the number of the cause and the byte of the file. The status is 0 in all these cases.";
 
+// Reads up to the end of the input or of the memory, and answers how many bytes came. Each read asks for all that there is
+// room for, since of an input that comes in messages a shorter read would lose the rest of one.
+fn fill<R: Read>(input: &mut R, memory: &mut [u8]) -> io::Result<usize>
+    ensures within { IfOk result (λ filled. filled ≤ length memory.new) }
+    ensures first { IfOk result (λ filled. IfSome (R.Read.remaining input.old) (λ bytes. take filled memory.new ≡ take (length memory.old) bytes)) }
+{
+    let mut filled = 0;
+    while filled < memory.len() {
+        let count = input.read(&mut memory[filled..])?;
+        if count == 0 {
+            break;
+        }
+        filled += count;
+    }
+    Ok(filled)
+}
+
 // Reads the input up to its end or to the most bytes.
 fn read_input<R: Read>(alloc: Global, input: &mut R) -> io::Result<Vec<u8>>
     ensures few { IfOk result (λ file. length file.items ≤ 65536) }
     ensures first { IfOk result (λ file. IfSome (R.Read.remaining input.old) (λ bytes. file.items ≡ take 65536 bytes)) }
 {
-    let mut file = Vec::new(alloc);
-    input.take(MOST_BYTES as u64).read_to_end(&mut file)?;
-    // No more came, though `take` promises that only of a reader whose bytes are known.
-    file.truncate(MOST_BYTES);
+    let mut file = vec![in alloc; 0u8; MOST_BYTES]?;
+    let filled = fill(input, &mut file)?;
+    file.truncate(filled);
     Ok(file)
 }
 
@@ -52,8 +68,8 @@ fn certificate(file: &[u8]) -> Result<Certificate, Fault>
 
 // What is printed for a file.
 fn answer(file: &[u8]) -> Text
-    ensures bytes { bytes_of result ≡ laid_out (file_certificate file.now) }
-    ensures content { result ≡ text_of (file_certificate file.now) }
+    ensures bytes { bytes_of (content result) ≡ laid_out (file_certificate file.now) }
+    ensures content { content result ≡ text_of (file_certificate file.now) }
 {
     lay_out(certificate(file))
 }

@@ -74,6 +74,30 @@ fn a_longer_input_is_cut(rt: HostRuntime) -> io::Result<()> {
     read_of(&rt, rt.alloc(), MOST_BYTES + 1, MOST_BYTES + 1, MOST_BYTES)
 }
 
+// Gives so many bytes as one message: what a read has no room for is lost.
+#[derive(Drop)]
+struct Message {
+    left: usize,
+}
+
+impl Read for Message {
+    fn read(&mut self, buf: &mut [u8]) -> io::Result<usize> {
+        let count = self.left.min(buf.len());
+        buf[..count].fill(7);
+        self.left = 0;
+        Ok(count)
+    }
+}
+
+#[test]
+fn a_message_is_read_whole(rt: HostRuntime) -> io::Result<()> {
+    for left in [781, 8_021, MOST_BYTES] {
+        let file = read_input(rt.alloc(), &mut Message { left })?;
+        assert_eq!(rt; file.len(), left);
+    }
+    Ok(())
+}
+
 #[test]
 fn a_failing_input(rt: HostRuntime) {
     let mut input = Pieces {

@@ -13,9 +13,10 @@ cut_again (suc n) (x ∷ xs) ys = ap (λ zs. x ∷ zs) (cut_again n xs ys)
 pub written-written : (text first second : List ℕ) → written (written text first) second ≡ written text (first ++ second)
 written-written text first second = cut_again 128 (text ++ first) second ∙ ap (take 128) (append_assoc text first second)
 
--- a byte more, or the same where there is no room for it
-pub pushed : {E : Type 0} (text : List ℕ) {more : List ℕ} (byte : ℕ) (answer : Result Unit E) → length text ≤ 128
-    → IsOk answer ↔ (length text < 128) → OnOk answer (more ≡ text ++ byte ∷ []) → OnErr answer (more ≡ text) → more ≡ written text (byte ∷ [])
-pushed text byte (Ok done) few room ok err = ok ∙ sym (take_all 128 (text ++ byte ∷ []) (omega (arith, length_push text byte, room.0 refl)))
-pushed text byte (Err e) few room ok err =
-    err ∙ sym (take_all 128 text few) ∙ sym (take-append-le 128 text (byte ∷ []) (⊎_elim (λ less. absurd (both_ways false refl (room.1 less))) (λ full. full) (cases_lt (length text) 128)))
+-- a byte more in what is seen of a list, or the same where there is no room for it
+pub pushed : {E A : Type 0} (seen : A → List ℕ) (before after : A) (byte : ℕ) (answer : Result Unit E) → length (seen before) ≤ 128
+    → IsOk answer ↔ (length (seen before) < 128) → OnOk answer (seen after ≡ seen before ++ byte ∷ []) → OnErr answer (after ≡ before) → seen after ≡ written (seen before) (byte ∷ [])
+pushed seen before after byte (Ok done) few room ok err = ok ∙ sym (take_all 128 (seen before ++ byte ∷ []) (omega (arith, length_push (seen before) byte, room.0 refl)))
+pushed seen before after byte (Err e) few room ok err =
+    let text = seen before in
+    ap seen err ∙ sym (take_all 128 text few) ∙ sym (take-append-le 128 text (byte ∷ []) (⊎_elim (λ less. absurd (both_ways false refl (room.1 less))) (λ full. full) (cases_lt (length text) 128)))

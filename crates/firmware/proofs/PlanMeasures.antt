@@ -1,5 +1,6 @@
 -- What is measured of a plan, by what the plan was made of.
 use Rattle.std.proofs.Common.{◌≡◌, ℕ, zero, suc, ◌<◌, ◌≤◌, max, List, map, length, Some, None, sum, Option, unwrap_or, sym, refl, ap, ◌∙◌, subst, ap₂, arith}
+use Rattle.fixed.specs.Values.{values}
 use Rattle.graph.specs.Asked.{steps_of, time_in, before_in, volume_of, length_of}
 use Rattle.graph.specs.Drafts.{Content, PlanOf}
 use Rattle.graph.specs.Graphs.{sets_of, time_of, set_before}
@@ -61,20 +62,20 @@ module _ (one two : ℕ → List ℕ)
 
 module _ (held : Content) (plan : Plan) (made : PlanOf held plan) where
   pub count_is : steps_of plan ≡ length held.times
-  count_is = sym (length_times plan.graph.steps) ∙ ap length made.times
+  count_is = sym (length_times (values plan.graph.steps)) ∙ ap length made.times
 
   time_is : (step : ℕ) → time_in plan step ≡ time_of held.times step
   time_is step = ap (λ times. time_of times step) made.times
 
   into_list : (step from : ℕ) → Among from (before_in plan step) → Among from (from_steps held.edges step)
   into_list step from there =
-      (listed_from from step held.edges).0 (sym (made.edges from step) ∙ (member_has (set_before (sets_of plan.graph.steps) step) from there).0)
+      (listed_from from step held.edges).0 (sym (made.edges from step) ∙ (member_has (set_before (sets_of (values plan.graph.steps)) step) from there).0)
 
   into_graph : (step from : ℕ) → Among from (from_steps held.edges step) → Among from (before_in plan step)
   into_graph step from there =
       let inside = made.edges from step ∙ (listed_from from step held.edges).1 there in
       let small : from < 64 = omega (arith, plan.graph.rising step from inside, edge_there plan.graph from step inside, plan.graph.few) in
-      has_member (set_before (sets_of plan.graph.steps) step) from small inside
+      has_member (set_before (sets_of (values plan.graph.steps)) step) from small inside
 
   pub volume_is : volume_of plan ≡ volume_in held
   volume_is = ap sum made.times
@@ -82,5 +83,5 @@ module _ (held : Content) (plan : Plan) (made : PlanOf held plan) where
   pub length_is : length_of plan ≡ length_in held
   unfolding length_in
   length_is =
-      same_longest (before_in plan) (from_steps held.edges) into_list into_graph (before_below (sets_of plan.graph.steps) plan.graph.rising) (time_in plan) (steps_of plan)
+      same_longest (before_in plan) (from_steps held.edges) into_list into_graph (before_below (sets_of (values plan.graph.steps)) plan.graph.rising) (time_in plan) (steps_of plan)
       ∙ ap₂ (λ time count. longest time (from_steps held.edges) count) (λ i step. time_is step i) count_is

@@ -7,6 +7,12 @@ use Rattle.certificate.specs.declared.certificate.NotCertified.{NotCertified}
 use Rattle.planfile.specs.Causes.{cause_number}
 use Rattle.planfile.specs.declared.cause.Fault.{Fault}
 use Rattle.fixed.specs.Filled.{filled}
+use Rattle.fixed.specs.Values.{values}
+use Rattle.firmware.specs.declared.text.Text.{Text}
+
+-- What a text holds: its bytes before the zeros.
+abbrev pub content : Text → List ℕ
+content text = values text.list
 
 -- The 128 bytes in which a text lies: the text, and then zeros.
 abbrev pub bytes_of : List ℕ → List ℕ

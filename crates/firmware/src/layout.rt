@@ -1,13 +1,13 @@
 // The text of an answer, laid out in a place of fixed size.
 ghost use Rattle.std.specs.Prelude.{◌≡◌, ℕ, ◌^◌, ◌<◌, ◌≤◌, length, All};
-ghost use Rattle.firmware.specs.Text.{bytes_of, written, certificate_text, fault_text, text_of, laid_out, Legible};
+ghost use Rattle.firmware.specs.Text.{bytes_of, content, written, certificate_text, fault_text, text_of, laid_out, Legible};
 
 use crate::text::Text;
 use certificate::Certificate;
 use planfile::Fault;
 
 fn certificate_lines(text: &mut Text, certificate: Certificate)
-    ensures { text.new ≡ written text.old (certificate_text certificate) }
+    ensures { content text.new ≡ written (content text.old) (certificate_text certificate) }
 {
     text.line(b"volume ", u64::from(certificate.volume));
     text.line(b"length ", u64::from(certificate.length));
@@ -20,7 +20,7 @@ fn certificate_lines(text: &mut Text, certificate: Certificate)
 }
 
 fn fault_line(text: &mut Text, fault: Fault)
-    ensures { text.new ≡ written text.old (fault_text fault) }
+    ensures { content text.new ≡ written (content text.old) (fault_text fault) }
 {
     text.word(b"refused ");
     text.number(u64::from(fault.cause.number()));
@@ -29,8 +29,8 @@ fn fault_line(text: &mut Text, fault: Fault)
 
 // Lays out the answer's text. Every text fits, so none is cut, and its end is the first zero.
 pub fn lay_out(answer: Result<Certificate, Fault>) -> Text
-    ensures bytes { bytes_of result ≡ laid_out answer }
-    ensures content { result ≡ text_of answer }
+    ensures bytes { bytes_of (content result) ≡ laid_out answer }
+    ensures content { content result ≡ text_of answer }
     ensures fits { length (text_of answer) ≤ 128 }
     ensures whole { All (λ byte. 0 < byte) (text_of answer) }
     ensures legible { (number : ℕ) → number < 2 ^ 64 → Legible number }

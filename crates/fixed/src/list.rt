@@ -1,9 +1,8 @@
 ghost use Rattle.std.specs.Prelude.{◌≡◌, ◌<◌, ◌≤◌, ◌↔◌, ⊤, [], ◌∷◌, ◌++◌, length, ◌==◌, slice_set, IsOk, OnOk, OnErr};
-ghost use Rattle.fixed.specs.Filled.{filled};
+ghost use Rattle.fixed.specs.Filled.{filled, IsFilled};
 
 use crate::blank::Blank;
 use std::alloc::AllocError;
-use std::marker::Model;
 
 // There was no place left.
 #[derive(Clone, Copy, PartialEq, Eq, Debug)]
@@ -13,23 +12,7 @@ pub struct Full;
 pub struct FixedList<T: Blank, const N: usize> {
     places: [T; N],
     len: usize,
-}
-
-// A list is seen as its values.
-impl<T: Blank, const N: usize> Model for FixedList<T, N> {
-    ghost use Rattle.std.specs.Prelude.{List, length, take, refl};
-    ghost use Rattle.fixed.specs.Filled.{filled, IsFilled};
-    ghost use Rattle.fixed.specs.FilledLaws.{length-values, filled-values};
-
-    ghost Value = { List T };
-
-    ghost view = { λ list. take list.len list.places };
-
-    ghost invariant = { λ list. IsFilled N T.Blank.blank list.len list.places };
-
-    ghost inverse = { λ values. record { places = filled N T.Blank.blank values; len = length values } };
-
-    ghost inverse_ok = { λ list held. rw (filled-values N T.Blank.blank list.len list.places held, length-values N T.Blank.blank list.len list.places held) refl };
+    ghost held: { IsFilled N T.Blank.blank len places },
 }
 
 impl<T: Blank, const N: usize> Clone for FixedList<T, N> {
@@ -45,8 +28,10 @@ impl<T: Blank, const N: usize> Clone for FixedList<T, N> {
 impl<T: Blank, const N: usize> Copy for FixedList<T, N> {}
 
 impl<T: Blank, const N: usize> FixedList<T, N> {
+    ghost use Rattle.fixed.specs.Values.{values};
+
     pub fn new() -> FixedList<T, N>
-        ensures { result ≡ [] }
+        ensures { values result ≡ [] }
     {
         FixedList {
             places: [T::blank(); N],
@@ -55,37 +40,37 @@ impl<T: Blank, const N: usize> FixedList<T, N> {
     }
 
     pub fn len(&self) -> usize
-        ensures value { result ≡ length self.now }
-        ensures few { length self.now ≤ N }
+        ensures value { result ≡ length (values self.now) }
+        ensures few { length (values self.now) ≤ N }
     {
         self.as_slice().len()
     }
 
     pub fn is_empty(&self) -> bool
-        ensures { result ≡ (length self.now == 0) }
+        ensures { result ≡ (length (values self.now) == 0) }
     {
         self.as_slice().is_empty()
     }
 
     // The values.
     pub fn as_slice(&self) -> &[T]
-        ensures values { result.now ≡ self.now }
-        ensures few { length self.now ≤ N }
+        ensures values { result.now ≡ values self.now }
+        ensures few { length (values self.now) ≤ N }
     {
         &self.places[..self.len]
     }
 
     // All places: the values, then blanks.
     pub fn places(&self) -> &[T; N]
-        ensures { result.now ≡ filled N T.Blank.blank self.now }
+        ensures { result.now ≡ filled N T.Blank.blank (values self.now) }
     {
         &self.places
     }
 
     // Adds a value at the end, or refuses it where the list is full.
     pub fn push(&mut self, value: T) -> Result<(), Full>
-        ensures room { IsOk result ↔ (length self.old < N) }
-        ensures ok { OnOk result (self.new ≡ self.old ++ value ∷ []) }
+        ensures room { IsOk result ↔ (length (values self.old) < N) }
+        ensures ok { OnOk result (values self.new ≡ values self.old ++ value ∷ []) }
         ensures err { OnErr result (self.new ≡ self.old) }
     {
         if self.len == N {
@@ -98,7 +83,7 @@ impl<T: Blank, const N: usize> FixedList<T, N> {
 
     // Puts another value in the place of one; where the list has no such place, nothing changes.
     pub fn set(&mut self, place: usize, value: T)
-        ensures { self.new ≡ slice_set self.old place value }
+        ensures { values self.new ≡ slice_set (values self.old) place value }
     {
         if place < self.len {
             self.places[place] = value;

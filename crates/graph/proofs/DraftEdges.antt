@@ -2,6 +2,7 @@
 use Rattle.std.proofs.Common.{◌≡◌, ℕ, ◌<◌, true, ◌↔◌, List, [], ◌∷◌, length, get_or, Some, None, sym, refl, ◌∙◌, subst, inl, arith}
 use Rattle.std.proofs.ByRecursion.{All-from_get_or}
 use Rattle.std.proofs.lemmas.Bool.{both_ways}
+use Rattle.fixed.specs.Values.{values}
 use Rattle.graph.specs.Edges.{no_edge}
 use Rattle.graph.specs.Graphs.{sets_of, set_before, before}
 use Rattle.graph.specs.Implied.{from_steps, ImpliedBy, first_implied}
@@ -33,10 +34,10 @@ module _ (one two : ℕ → List ℕ) (over : (step from : ℕ) → Among from (
 
 module _ (draft : Draft) where
   abbrev edges : List Edge
-  edges = draft.edges
+  edges = values draft.edges
 
   abbrev sets : List StepSet
-  sets = sets_of draft.graph.steps
+  sets = sets_of (values draft.graph.steps)
 
   abbrev there : ℕ → ℕ → Type 0
   there from to = has (set_before sets to) from ≡ true

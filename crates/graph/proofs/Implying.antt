@@ -3,6 +3,7 @@ use Rattle.std.proofs.Common.{◌≡◌, ℕ, ◌<◌, Bool, true, false, not, �
 use Rattle.std.proofs.lemmas.List.{length-map, get_or_past}
 use Rattle.std.proofs.lemmas.Bool.{cases_lt, both_ways, ne_eqb, eqb-true, eq-eqb, not-false, not_from_true, and_parts, and_cases}
 use Rattle.std.proofs.lemmas.Bool.Decides.{Decides-at}
+use Rattle.fixed.specs.Values.{values}
 use Rattle.graph.specs.Graphs.{times_of, sets_of, time_of, set_before, before}
 use Rattle.graph.specs.Measures.{visited}
 use Rattle.graph.specs.Paths.{Ancestor, AllPaths, paths}
@@ -17,17 +18,17 @@ use Rattle.graph.specs.SetLaws.{has_none, has_without}
 
 module _ (graph : Graph) where
   abbrev sets : List StepSet
-  sets = sets_of graph.steps
+  sets = sets_of (values graph.steps)
 
   -- a step with a predecessor is a step of the graph
-  pub edge_there : (from to : ℕ) → has (set_before sets to) from ≡ true → to < length graph.steps
+  pub edge_there : (from to : ℕ) → has (set_before sets to) from ≡ true → to < length (values graph.steps)
   edge_there from to inside =
       ⊎_elim
       (λ under. under)
       (λ over.
-      let outside = get_or_past sets to none (omega (arith, length-map graph.steps (λ (step : Step). step.predecessors))) in
+      let outside = get_or_past sets to none (omega (arith, length-map (values graph.steps) (λ (step : Step). step.predecessors))) in
       absurd (both_ways _ (ap (λ held. has held from) outside ∙ has_none from) inside))
-      (cases_lt to (length graph.steps))
+      (cases_lt to (length (values graph.steps)))
 
   -- no step is its own ancestor
   pub no_self : (step : ℕ) → Ancestor (before sets) step step → ⊥
@@ -37,7 +38,7 @@ module _ (graph : Graph) where
 
   -- the set at another predecessor tells whether a step is its ancestor
   module _ (on_paths : List StepSet)
-      (known : (step : ℕ) → step < length graph.steps → Some (get_or on_paths step none) ≡ value_at none both visited (time_of (times_of graph.steps)) (before sets) step)
+      (known : (step : ℕ) → step < length (values graph.steps) → Some (get_or on_paths step none) ≡ value_at none both visited (time_of (times_of (values graph.steps))) (before sets) step)
       (listed : (step : ℕ) → AllPaths (before sets) step (paths (before sets) step)) where
     pub on_path : (from to other : ℕ) → has (set_before sets to) other ≡ true → (other ≡ from → ⊥) → Decides (has (get_or on_paths other none) from) (Ancestor (before sets) from other)
     on_path from to other inside apart =
@@ -48,7 +49,7 @@ module _ (graph : Graph) where
         let same : has all from ≡ has (without_step other all) from =
         sym (has_without other all from ∙ ap (λ is. has all from && not is) (ne_eqb from other (λ is. apart (sym is))) ∙ and_so (has all from)) in
         Decides-at (has all from) (has (without_step other all) from) same
-        (has_ancestors (before sets) (before_below sets graph.rising) (time_of (times_of graph.steps)) other (omega arith) (listed other) all (known other (omega arith)) from) where
+        (has_ancestors (before sets) (before_below sets graph.rising) (time_of (times_of (values graph.steps))) other (omega arith) (listed other) all (known other (omega arith)) from) where
           and_so : (b : Bool) → (b && not false) ≡ b
           and_so true = refl
           and_so false = refl

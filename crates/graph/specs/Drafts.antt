@@ -1,6 +1,7 @@
 -- What a draft holds and what its calls make of it.
 use Rattle.std.specs.Prelude.{◌≡◌, ℕ, Bool, false, cond, ◌&&◌, ◌||◌, ◌⊎◌, ◌↔◌, List, [], ◌∷◌, ◌++◌, length, Some, None, Ok, Err, Option, Result, ◌==◌, nat_le, nat_lt}
 use Rattle.std.specs.Option.{option_map, unwrap_or}
+use Rattle.fixed.specs.Values.{values}
 use Rattle.graph.specs.Graphs.{times_of, sets_of, set_before}
 use Rattle.graph.specs.Implied.{FirstImpliedBy, NoneImpliedBy, first_implied}
 use Rattle.graph.specs.Sets.{has}
@@ -19,8 +20,8 @@ pub record Content : Type 0 where
 abbrev pub content : Draft → Content
 content draft = record {
   deadline = unwrap_or draft.deadline 0;
-  times = times_of draft.graph.steps;
-  edges = draft.edges;
+  times = times_of (values draft.graph.steps);
+  edges = values draft.edges;
 }
 
 abbrev pub with_deadline : ℕ → Content → Content
@@ -65,8 +66,8 @@ unless None kept changed = changed
 -- A plan has just what a draft holds: its deadline, its times, and as predecessors the first steps of its edges.
 pub record PlanOf (held : Content) (plan : Plan) : Type 0 where
   pub deadline : plan.deadline ≡ held.deadline
-  pub times : times_of plan.graph.steps ≡ held.times
-  pub edges : (from to : ℕ) → has (set_before (sets_of plan.graph.steps) to) from ≡ listed from to held.edges
+  pub times : times_of (values plan.graph.steps) ≡ held.times
+  pub edges : (from to : ℕ) → has (set_before (sets_of (values plan.graph.steps)) to) from ≡ listed from to held.edges
 
 -- The deadline is missing, or there is no step.
 abbrev pub Lacks : Content → Type 0

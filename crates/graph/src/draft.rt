@@ -1,5 +1,6 @@
 ghost use Rattle.std.specs.Prelude.{◌≡◌, ◌≤◌, length};
 ghost use Rattle.std.specs.Option.{ForSome};
+ghost use Rattle.fixed.specs.Values.{values};
 ghost use Rattle.graph.specs.Edges.{edges_in, EachInGraph, NoOther};
 ghost use Rattle.graph.specs.Graphs.{sets_of};
 
@@ -17,7 +18,7 @@ pub struct Draft {
     pub(crate) deadline: Option<u16>,
     pub(crate) edges: FixedList<Edge, MOST_EDGES>,
     ghost ranged: { ForSome deadline (λ ticks. (1 ≤ ticks) × (ticks ≤ 20000)) },
-    ghost counted: { length edges ≡ edges_in (sets_of graph.steps) },
-    ghost listed: { EachInGraph (sets_of graph.steps) edges },
-    ghost complete: { NoOther (sets_of graph.steps) edges },
+    ghost counted: { length (values edges) ≡ edges_in (sets_of (values graph.steps)) },
+    ghost listed: { EachInGraph (sets_of (values graph.steps)) (values edges) },
+    ghost complete: { NoOther (sets_of (values graph.steps)) (values edges) },
 }

@@ -1,4 +1,5 @@
 ghost use Rattle.std.specs.Prelude.{length};
+ghost use Rattle.fixed.specs.Values.{values};
 ghost use Rattle.graph.specs.Graphs.{sets_of};
 ghost use Rattle.graph.specs.Plans.{Due, Direct};
 
@@ -9,6 +10,6 @@ use crate::graph::Graph;
 pub struct Plan {
     pub(crate) graph: Graph,
     pub(crate) deadline: u16,
-    ghost due: { Due (length graph.steps) deadline },
-    ghost direct: { Direct (sets_of graph.steps) },
+    ghost due: { Due (length (values graph.steps)) deadline },
+    ghost direct: { Direct (sets_of (values graph.steps)) },
 }

@@ -1,5 +1,6 @@
 // What can be asked of a plan.
 ghost use Rattle.std.specs.Prelude.{◌≡◌, [], if◌then◌else◌, Some, None, ◌==◌, nat_lt};
+ghost use Rattle.fixed.specs.Values.{values};
 ghost use Rattle.graph.specs.Asked.{steps_of, deadline_of, time_in};
 ghost use Rattle.graph.specs.Graphs.{sets_of, set_before};
 
@@ -12,7 +13,7 @@ impl Plan {
     pub fn empty() -> Plan
         ensures count { steps_of result ≡ 0 }
         ensures deadline { deadline_of result ≡ 0 }
-        ensures steps { result.graph.steps ≡ [] }
+        ensures steps { values result.graph.steps ≡ [] }
     {
         Plan {
             graph: Graph::empty(),
@@ -48,7 +49,7 @@ impl Plan {
 
     // The predecessors of a step, if the plan has it.
     pub fn predecessors(&self, step: u8) -> Option<StepSet>
-        ensures { result ≡ (if nat_lt step (steps_of self.now) then Some (set_before (sets_of self.now.graph.steps) step) else None) }
+        ensures { result ≡ (if nat_lt step (steps_of self.now) then Some (set_before (sets_of (values self.now.graph.steps)) step) else None) }
     {
         self.graph.get(step).map(|step| step.predecessors)
     }

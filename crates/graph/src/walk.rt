@@ -1,4 +1,5 @@
 ghost use Rattle.std.specs.Prelude.{◌≡◌, map, length, slice_index_or};
+ghost use Rattle.fixed.specs.Values.{values};
 ghost use Rattle.graph.specs.Graphs.{times_of, sets_of, time_of, before};
 ghost use Rattle.graph.specs.Sets.{members};
 ghost use Rattle.graph.specs.Walks.{join_all, Walked};
@@ -29,7 +30,7 @@ fn gathered<M: Measure>(
 impl Graph {
     // The value of a measure at each step; where there is no step, the start.
     pub(crate) fn walk<M: Measure>(&self, measure: &M) -> [M::Value; MOST_STEPS]
-        ensures { Walked (M.Measure.start measure.now) (M.Measure.join measure.now) (M.Measure.carry measure.now) (time_of (times_of self.now.steps)) (before (sets_of self.now.steps)) (length self.now.steps) result }
+        ensures { Walked (M.Measure.start measure.now) (M.Measure.join measure.now) (M.Measure.carry measure.now) (time_of (times_of (values self.now.steps))) (before (sets_of (values self.now.steps))) (length (values self.now.steps)) result }
     {
         let mut values = [measure.start(); MOST_STEPS];
         // Each value is written to its place, since later ones are gathered from it.

@@ -9,3 +9,4 @@ pub mod Endings
 pub mod Concluding
 pub mod Naming
 pub mod Chains
+pub mod Ends

@@ -1,5 +1,5 @@
 -- What the parts of the reader promise one another.
-use Rattle.std.specs.Prelude.{◌≡◌, ℕ, ◌+◌, ◌-◌, ◌≤◌, true, Bool, ◌⊎◌, List, [], ◌++◌, length, take, OnOk, Some, None, Ok, Err, Option, Result}
+use Rattle.std.specs.Prelude.{◌≡◌, ℕ, ◌+◌, ◌-◌, ◌≤◌, true, Bool, ◌⊎◌, List, [], ◌++◌, length, take, OnOk, OnErr, Some, None, Ok, Err, Option, Result}
 use Rattle.std.specs.Borrow.{Bor}
 use Rattle.cores.specs.declared.ladder.Block.{Block}
 use Rattle.graph.specs.Drafts.{PlanOf, content}
@@ -103,6 +103,7 @@ cause_of (refusal.ImpliedEdge place) = ImpliedEdge
 pub record Entered (before : Reader) (entry : Entry) (answer : Result (Unit {0}) Cause) (after : Reader) : Type 0 where
   pub answered : answer ≡ refused_by (first_cause (said_causes (length before.blocks.now) (reading_in before) entry))
   pub reading : OnOk answer (reading_in after ≡ taken entry (reading_in before))
+  pub filled : OnErr answer (after.filled ≡ before.filled)
   pub list : KeepsList before after
 
 -- The causes for which the next record can be refused, by its kind and its length, and by what it says.

@@ -1,5 +1,5 @@
 -- What becomes of a file: a definition, and above it the law that says the same of whole files.
-use Rattle.std.specs.Prelude.{◌≡◌, ℕ, zero, suc, ◌-◌, ◌≤◌, Bool, if◌then◌else◌, ◌||◌, ◌⊎◌, ◌↔◌, List, [], ◌∷◌, ◌++◌, length, replicate, Some, None, Ok, Err, Option, Result, ◌==◌, ◌≢◌}
+use Rattle.std.specs.Prelude.{◌≡◌, ℕ, zero, suc, ◌-◌, ◌<◌, ◌≤◌, Bool, if◌then◌else◌, ◌||◌, ◌⊎◌, ◌↔◌, List, [], ◌∷◌, ◌++◌, length, replicate, Some, None, Ok, Err, Option, Result, IfSome, ◌==◌, ◌≢◌}
 use Rattle.std.specs.List.{slice_get}
 use Rattle.cores.specs.declared.ladder.Block.{Block}
 use Rattle.graph.specs.Asked.{steps_of, deadline_of}
@@ -65,6 +65,10 @@ layers_of read = record { hold_back = read.held_back; late = read.late_by }
 abbrev pub answer_to : Result (List Entry) Fault → Result Layers Fault
 answer_to (Ok entries) = Ok (layers_of (reading_of entries))
 answer_to (Err bad) = Err bad
+
+-- where a hold-back begins and ends by numbers of two bytes,
+abbrev pub EndsFit : Layers → Type 0
+EndsFit layers = IfSome layers.hold_back (λ window. (window.from < 65536) × (window.until < 65536))
 
 -- in the plan what the records say, or nothing,
 abbrev pub LeavesPlan : Result (List Entry) Fault → Plan → Type 0

@@ -1,7 +1,7 @@
 // Reading a file from its first record to its last.
-ghost use Rattle.std.specs.Prelude.{◌≡◌, List, length};
+ghost use Rattle.std.specs.Prelude.{◌≡◌, List, length, IfOk};
 ghost use Rattle.planfile.specs.Cutting.{WholeRead};
-ghost use Rattle.planfile.specs.Files.{FileLaw, LeavesPlan, answer_to, blocks_left, outcome};
+ghost use Rattle.planfile.specs.Files.{EndsFit, FileLaw, LeavesPlan, answer_to, blocks_left, outcome};
 
 use crate::cause::Fault;
 use crate::layers::Layers;
@@ -38,6 +38,7 @@ pub const NO_BLOCK: Block = Block { cores: 0, ticks: 0 };
 // A file that is refused leaves the plan empty and the whole list zero.
 pub fn read(file: &[u8], plan: &mut Plan, blocks: &mut [Block]) -> Result<Layers, Fault>
     ensures answer { result ≡ answer_to (outcome (length blocks.old) file.now) }
+    ensures ends { IfOk result EndsFit }
     ensures plan { LeavesPlan (outcome (length blocks.old) file.now) plan.new }
     ensures list { blocks.new ≡ blocks_left (length blocks.old) (outcome (length blocks.old) file.now) }
     ensures law { FileLaw (length blocks.old) file.now }

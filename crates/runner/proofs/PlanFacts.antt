@@ -2,6 +2,7 @@
 use Rattle.std.proofs.Common.{◌≡◌, ℕ, zero, suc, ◌+◌, ◌-◌, ◌<◌, ◌≤◌, List, map, length, get_or, take, Some, None, sum, Option, unwrap_or, sym, refl, ap, ◌∙◌, subst, ap₂, add-one, arith}
 use Rattle.std.proofs.lemmas.List.{get_or_past, take_all}
 use Rattle.std.proofs.lemmas.List.Sums.{sum_by_more}
+use Rattle.fixed.specs.Values.{values}
 use Rattle.certificate.specs.Marking.{total}
 use Rattle.certificate.proofs.Totals.{total_push}
 use Rattle.graph.specs.Asked.{steps_of, time_in, before_in, volume_of, length_of}
@@ -21,7 +22,7 @@ use Rattle.runner.proofs.Roads.{some_path}
 
 module _ (plan : Plan) where
   rising : (step from : ℕ) → Among from (before_in plan step) → from < step
-  rising = before_below (sets_of plan.graph.steps) plan.graph.rising
+  rising = before_below (sets_of (values plan.graph.steps)) plan.graph.rising
 
   listed : (step : ℕ) → AllPaths (before_in plan) step (paths (before_in plan) step)
   listed step = all_paths (before_in plan) rising (λ s. members_distinct _) step
@@ -57,7 +58,7 @@ module _ (plan : Plan) where
 
   pub volume_total : total (time_in plan) 0 64 ≡ volume_of plan
   volume_total =
-      let steps = plan.graph.steps in
+      let steps = values plan.graph.steps in
       let times = times_of steps in
       let all : 64 ≡ length steps + (64 - length steps) = omega (arith, plan.graph.few) in
       ap (total (time_in plan) 0) all

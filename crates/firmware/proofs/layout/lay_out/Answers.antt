@@ -5,7 +5,7 @@ use Rattle.std.proofs.lemmas.List.{take_all}
 use Rattle.std.proofs.lemmas.List.Elements.{All-from_recursion}
 use Rattle.certificate.specs.declared.certificate.Certificate.{Certificate}
 use Rattle.planfile.specs.declared.cause.Fault.{Fault}
-use Rattle.firmware.specs.Text.{bytes_of, written, text_of, laid_out, Legible}
+use Rattle.firmware.specs.Text.{bytes_of, content, written, text_of, laid_out, Legible}
 use Rattle.firmware.proofs.Sizes.{Clear, certificate_clear, fault_clear}
 use Rattle.firmware.proofs.layout.lay_out.Goals as goal
 
@@ -22,8 +22,8 @@ laid answer text is clear =
 
 pub returns-in-Ok : goal.returns-in-Ok
 returns-in-Ok c =
-    rw c.in-Ok.is (laid (Ok c.in-Ok.certificate) c.certificate_lines.new.text (rw c.new-text.ensures at c.certificate_lines.ensures) (certificate_clear c.in-Ok.certificate (omega arith) (omega arith) (omega arith) (omega arith)))
+    rw c.in-Ok.is (laid (Ok c.in-Ok.certificate) (content c.certificate_lines.new.text) (rw c.new-text.ensures at c.certificate_lines.ensures) (certificate_clear c.in-Ok.certificate (omega arith) (omega arith) (omega arith) (omega arith)))
 
 pub returns-in-Err : goal.returns-in-Err
 returns-in-Err c =
-    rw c.in-Err.is (laid (Err c.in-Err.fault) c.fault_line.new.text (rw c.new-text.ensures at c.fault_line.ensures) (fault_clear c.in-Err.fault (omega arith)))
+    rw c.in-Err.is (laid (Err c.in-Err.fault) (content c.fault_line.new.text) (rw c.new-text.ensures at c.fault_line.ensures) (fault_clear c.in-Err.fault (omega arith)))

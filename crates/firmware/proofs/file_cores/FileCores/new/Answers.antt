@@ -10,5 +10,5 @@ returns c = λ tick.
     let window = or_default {default = no_window} (λ value is. search (rules, is)) c.args.layers.hold_back _ c.unwrap_or_default-window.ensures in
     same_widths tick
     (ap (λ late. late.below.blocks.now) c.new-3.ensures.below ∙ ap (λ ladder. ladder.blocks.now) c.new-2.ensures.below ∙ ap (λ x. x.now) c.new.ensures)
-    (ap (λ late. late.by) c.new-3.ensures.below ∙ c.new-2.ensures.by ∙ c.from-late.ensures ∙ late)
+    (ap (λ late. late.by) c.new-3.ensures.below ∙ search (rules, late))
     (c.new-3.ensures.window ∙ window)

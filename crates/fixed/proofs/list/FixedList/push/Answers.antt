@@ -4,4 +4,5 @@ use Rattle.fixed.proofs.list.FixedList.push.Goals as goal
 
 pub invariant_of-self : goal.invariant_of-self
 invariant_of-self g c =
-    IsFilled-push g.row.N g.T.Blank.blank c.self.inside.len c.self.inside.places c.self.invariant _ (omega (arith, c.self.invariant.few, c.if-self.false))
+    let list = c.args.self.now in
+    record { held = IsFilled-push g.row.N g.T.Blank.blank list.len list.places list.held _ (omega (arith, list.held.few, c.if-self.false)) }

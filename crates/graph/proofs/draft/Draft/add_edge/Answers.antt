@@ -1,4 +1,5 @@
 use Rattle.std.proofs.Common.{◌≡◌, ℕ, ◌+◌, ◌<◌, true, false, [], ◌∷◌, ◌++◌, length, length-append, set, Some, None, sym, refl, ap, ◌∙◌, subst₂, arith, rules}
+use Rattle.fixed.specs.Values.{values}
 use Rattle.graph.specs.Drafts.{content, with_edge, edge_refusal}
 use Rattle.graph.specs.Edges.{edges_in, EachInGraph, NoOther}
 use Rattle.graph.specs.Graphs.{sets_of, set_before}
@@ -17,30 +18,30 @@ abbrev edge : ℕ → ℕ → Edge
 edge from to = record { from = from; to = to }
 
 -- an edge between two steps of a draft
-module _ (draft : Draft) (from to : ℕ) (rises : from < to) (there : to < length draft.graph.steps) where
+module _ (draft : Draft) (from to : ℕ) (rises : from < to) (there : to < length (values draft.graph.steps)) where
   steps : to < length (content draft).times
-  steps = omega (arith, length_times draft.graph.steps)
+  steps = omega (arith, length_times (values draft.graph.steps))
 
-  again : has (set_before (sets_of draft.graph.steps) to) from ≡ true → edge_refusal (content draft) from to ≡ Some EdgeTwice
-  again inside = edge_twice (content draft) from to rises steps (has_listed (sets_of draft.graph.steps) draft.edges from to draft.complete inside)
+  again : has (set_before (sets_of (values draft.graph.steps)) to) from ≡ true → edge_refusal (content draft) from to ≡ Some EdgeTwice
+  again inside = edge_twice (content draft) from to rises steps (has_listed (sets_of (values draft.graph.steps)) (values draft.edges) from to draft.complete inside)
 
   -- a new edge is one more, and there is room for it
-  module _ (new : has (set_before (sets_of draft.graph.steps) to) from ≡ false) where
+  module _ (new : has (set_before (sets_of (values draft.graph.steps)) to) from ≡ false) where
     fresh : edge_refusal (content draft) from to ≡ None
-    fresh = edge_new (content draft) from to rises steps (listed_has (sets_of draft.graph.steps) draft.edges from to draft.listed new)
+    fresh = edge_new (content draft) from to rises steps (listed_has (sets_of (values draft.graph.steps)) (values draft.edges) from to draft.listed new)
 
-    module _ (after : Graph) (gained : sets_of after.steps ≡ set (sets_of draft.graph.steps) to (with_step from (set_before (sets_of draft.graph.steps) to))) where
-      one_more : edges_in (sets_of after.steps) ≡ length draft.edges + 1
+    module _ (after : Graph) (gained : sets_of (values after.steps) ≡ set (sets_of (values draft.graph.steps)) to (with_step from (set_before (sets_of (values draft.graph.steps)) to))) where
+      one_more : edges_in (sets_of (values after.steps)) ≡ length (values draft.edges) + 1
       one_more =
           omega (
             arith,
             draft.counted,
             ap edges_in gained,
-            edges_with (sets_of draft.graph.steps) from to (omega (arith, length_sets draft.graph.steps)) (omega (arith, draft.graph.few)) new,
+            edges_with (sets_of (values draft.graph.steps)) from to (omega (arith, length_sets (values draft.graph.steps))) (omega (arith, draft.graph.few)) new,
           )
 
-      room : length draft.edges < 2016
-      room = omega (arith, one_more, edges_bound (sets_of after.steps) (omega (arith, length_sets after.steps, after.few)) after.rising)
+      room : length (values draft.edges) < 2016
+      room = omega (arith, one_more, edges_bound (sets_of (values after.steps)) (omega (arith, length_sets (values after.steps), after.few)) after.rising)
 
 pub returns-then-contains : goal.returns-then-contains
 returns-then-contains c =
@@ -57,19 +58,19 @@ invariant_of-self c =
     let draft = c.args.self.now in
     let from = c.args.from in
     let to = c.args.to in
-    let before = sets_of draft.graph.steps in
+    let before = sets_of (values draft.graph.steps) in
     let gained = c.add_edge.ensures.predecessors in
     let new = sym (c.contains.ensures.value ∙ ap (λ set. has set from) c.predecessors.ensures) ∙ c.if-contains.false in
     let left = room draft from to (omega arith) (omega arith) new c.add_edge.new.self gained in
-    let is : c.push.new.self ≡ draft.edges ++ (edge from to ∷ []) = search rules in
-    let size = ap length is ∙ length-append draft.edges (edge from to ∷ []) in
-    let there : to < length before = omega (arith, length_sets draft.graph.steps) in
+    let is : values c.push.new.self ≡ values draft.edges ++ (edge from to ∷ []) = search rules in
+    let size = ap length is ∙ length-append (values draft.edges) (edge from to ∷ []) in
+    let there : to < length before = omega (arith, length_sets (values draft.graph.steps)) in
     let small : from < 64 = omega (arith, draft.graph.few) in
     record {
       ranged = draft.ranged;
       counted = size ∙ sym (one_more draft from to (omega arith) (omega arith) new c.add_edge.new.self gained);
-      listed = subst₂ EachInGraph (sym gained) (sym is) (listed_more before from to there small draft.edges draft.listed);
-      complete = subst₂ NoOther (sym gained) (sym is) (complete_more before from to there small draft.edges draft.complete);
+      listed = subst₂ EachInGraph (sym gained) (sym is) (listed_more before from to there small (values draft.edges) draft.listed);
+      complete = subst₂ NoOther (sym gained) (sym is) (complete_more before from to there small (values draft.edges) draft.complete);
     }
 
 pub returns : goal.returns
@@ -80,7 +81,7 @@ returns c =
     let held = content draft in
     let new = sym (c.contains.ensures.value ∙ ap (λ set. has set from) c.predecessors.ensures) ∙ c.if-contains.false in
     let left = room draft from to (omega arith) (omega arith) new c.add_edge.new.self c.add_edge.ensures.predecessors in
-    let is : c.push.new.self ≡ draft.edges ++ (edge from to ∷ []) = search rules in
+    let is : values c.push.new.self ≡ values draft.edges ++ (edge from to ∷ []) = search rules in
     let said = accepted (edge_refusal held from to) tt held (with_edge (edge from to) held) (fresh draft from to (omega arith) (omega arith) new) in
     record {
       answer = said.0;

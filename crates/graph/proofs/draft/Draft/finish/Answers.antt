@@ -1,5 +1,6 @@
 use Rattle.std.proofs.Common.{◌≡◌, ℕ, length, Some, None, sym, refl, ap, ◌∙◌, ⊎_elim, arith}
 use Rattle.std.specs.Option.{unwrap_or}
+use Rattle.fixed.specs.Values.{values}
 use Rattle.graph.specs.Drafts.{content, Lacks}
 use Rattle.graph.specs.Graphs.{sets_of}
 use Rattle.graph.specs.declared.draft.Draft.{Draft}
@@ -10,11 +11,11 @@ use Rattle.graph.proofs.GraphLists.{length_times}
 use Rattle.graph.proofs.draft.Draft.finish.Goals as goal
 
 -- a draft with a deadline and a step lacks nothing
-whole : (draft : Draft) (deadline : ℕ) → draft.deadline ≡ Some deadline → (length draft.graph.steps ≡ 0 → ⊥) → Lacks (content draft) → ⊥
+whole : (draft : Draft) (deadline : ℕ) → draft.deadline ≡ Some deadline → (length (values draft.graph.steps) ≡ 0 → ⊥) → Lacks (content draft) → ⊥
 whole draft deadline is steps lacks =
     ⊎_elim
     (λ none. omega (arith, (draft.ranged deadline is).0, none, ap (λ d. unwrap_or d 0) is))
-    (λ none. steps (omega (arith, length_times draft.graph.steps, ap length none)))
+    (λ none. steps (omega (arith, length_times (values draft.graph.steps), ap length none)))
     lacks
 
 pub invariant_of-result : goal.invariant_of-result
@@ -37,7 +38,7 @@ returns-in-None-clause-answer c =
       record {
         deadline = ap (λ d. unwrap_or d 0) (sym c.in-Some.is);
         times = refl;
-        edges = λ from to. has_is_listed (sets_of draft.graph.steps) draft.edges from to draft.listed draft.complete;
+        edges = λ from to. has_is_listed (sets_of (values draft.graph.steps)) (values draft.edges) from to draft.listed draft.complete;
       },
     )
 

@@ -1,5 +1,6 @@
 use Rattle.std.proofs.Common.{◌≡◌, ℕ, true, List, length, get_or, sym, refl, ap, ◌∙◌, subst, inl, inr, ⊎_elim, arith}
 use Rattle.std.proofs.lemmas.Bool.{cases_eq, cases_Bool, both_ways}
+use Rattle.fixed.specs.Values.{values}
 use Rattle.graph.specs.Edges.{no_edge}
 use Rattle.graph.specs.Graphs.{sets_of, set_before, before}
 use Rattle.graph.specs.Paths.{Among, Ancestor}
@@ -15,16 +16,16 @@ use Rattle.graph.proofs.Order.{member_has, has_member}
 use Rattle.graph.proofs.draft.Draft.first_implied.Goals as goal
 
 -- the other predecessors of a step, as they are listed
-module _ (draft : Draft) (edge : Edge) (others : StepSet) (left : List ℕ) (is : others ≡ without_step edge.from (set_before (sets_of draft.graph.steps) edge.to)) (gives : left ≡ members others) where
+module _ (draft : Draft) (edge : Edge) (others : StepSet) (left : List ℕ) (is : others ≡ without_step edge.from (set_before (sets_of (values draft.graph.steps)) edge.to)) (gives : left ≡ members others) where
   abbrev there : StepSet
-  there = set_before (sets_of draft.graph.steps) edge.to
+  there = set_before (sets_of (values draft.graph.steps)) edge.to
 
   each_other : (n : ℕ) → Among n left → (has there n ≡ true) × (n ≡ edge.from → ⊥)
   each_other n among =
       let inside = (member_has others n (subst (Among n) gives among)).0 in
       still_has there edge.from n (ap (λ held. has held n) (sym is) ∙ inside)
 
-  all_others : (n : ℕ) → has there n ≡ true → Ancestor (before (sets_of draft.graph.steps)) edge.from n → Among n left
+  all_others : (n : ℕ) → has there n ≡ true → Ancestor (before (sets_of (values draft.graph.steps))) edge.from n → Among n left
   all_others n inside ancestor =
       let below = draft.graph.rising edge.to n inside in
       let under = edge_there draft.graph n edge.to inside in
@@ -33,7 +34,7 @@ module _ (draft : Draft) (edge : Edge) (others : StepSet) (left : List ℕ) (is 
       (λ gone.
       ⊎_elim
       (λ lacks. absurd (both_ways (has there n) lacks inside))
-      (λ same. absurd (no_self draft.graph n (subst (λ s. Ancestor (before (sets_of draft.graph.steps)) s n) (sym same) ancestor)))
+      (λ same. absurd (no_self draft.graph n (subst (λ s. Ancestor (before (sets_of (values draft.graph.steps))) s n) (sym same) ancestor)))
       (gone_from there edge.from n (ap (λ held. has held n) (sym is) ∙ gone)))
       (cases_Bool (has others n))
 
@@ -52,7 +53,7 @@ bounds-on_paths-from c =
 pub loop-other-preserved : goal.loop-other-preserved
 loop-other-preserved c =
     let draft = c.args.self.now in
-    let sets = sets_of draft.graph.steps in
+    let sets = sets_of (values draft.graph.steps) in
     let edge = get_or c.as_slice-edge-items.result.now c.edges.place no_edge in
     let other = c.in-Some.other in
     let next = c.in-Some.ensures.steps in
@@ -77,7 +78,7 @@ edges-preserved c =
       λ earlier under implied.
           ⊎_elim
           (λ same.
-          let here = subst (λ (edge : Edge). Implied (sets_of draft.graph.steps) edge.from edge.to) is (subst (ImpliedAt draft) same implied) in
+          let here = subst (λ (edge : Edge). Implied (sets_of (values draft.graph.steps)) edge.from edge.to) is (subst (ImpliedAt draft) same implied) in
           subst (Among here.0) c.in-None.ensures.steps.0 (c.loop-other.invariant.2 here.0 here.1 here.2))
           (λ other. c.edges.invariant.1 earlier (omega arith) implied)
           (cases_eq earlier c.edges.place),
@@ -99,5 +100,5 @@ returns-then-contains c =
     let inside = c.loop-other.invariant.1 other (subst (Among other) (sym c.in-Some.ensures.steps) (inl refl)) in
     let hit = ap (λ k. has (get_or c.walk-on_paths.result k none) edge.from) (sym c.from.ensures) ∙ sym c.contains.ensures.value ∙ c.if-contains.true in
     let ancestor = (on_path draft.graph c.walk-on_paths.result c.walk-on_paths.ensures.steps c.walk-on_paths.ensures.paths edge.from edge.to other inside.0 inside.1).0 hit in
-    let here : ImpliedAt draft c.edges.place = subst (λ (edge : Edge). Implied (sets_of draft.graph.steps) edge.from edge.to) is (other, inside.0, ancestor) in
+    let here : ImpliedAt draft c.edges.place = subst (λ (edge : Edge). Implied (sets_of (values draft.graph.steps)) edge.from edge.to) is (other, inside.0, ancestor) in
     sym (first_in_list draft c.edges.place (omega arith) here c.edges.invariant.1)

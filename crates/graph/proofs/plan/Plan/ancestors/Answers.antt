@@ -1,4 +1,5 @@
 use Rattle.std.proofs.Common.{◌≡◌, ◌<◌, length, get_or, Some, Decides, sym, ap, ◌∙◌, subst, arith, rules}
+use Rattle.fixed.specs.Values.{values}
 use Rattle.graph.specs.Asked.{time_in, before_in}
 use Rattle.graph.specs.Measures.{visited}
 use Rattle.graph.specs.Paths.{Ancestor}
@@ -12,7 +13,7 @@ pub returns-clause-steps : goal.returns-clause-steps
 returns-clause-steps c =
     let plan = c.args.self.now in
     let step = c.args.step in
-    let under : step < length plan.graph.steps = search rules in
+    let under : step < length (values plan.graph.steps) = search rules in
     let few = plan.graph.few in
     let all = get_or c.walk.result step none in
     let is : Some all ≡ value_at none both visited (time_in plan) (before_in plan) step = c.walk.ensures.steps step under in
