@@ -1,4 +1,4 @@
--- Proofs that places are known by their values, which a fixed list hands on beside its meaning.
+-- Proofs that places are known by their values, and that one value more leaves the others blank.
 use Rattle.std.specs.Prelude.{◌≡◌, ℕ, ◌+◌, ◌-◌, ◌<◌, List, length, take, replicate, slice_set}
 use Rattle.std.proofs.Common.{arith, ap, ◌∙◌, length-set}
 use Rattle.std.proofs.lemmas.List.{take-append-drop, length-take-le, drop-set-lt, drop-drop, drop-replicate}

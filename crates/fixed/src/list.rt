@@ -83,7 +83,8 @@ impl<T: Blank, const N: usize> FixedList<T, N> {
 
     // Puts another value in the place of one; where the list has no such place, nothing changes.
     pub fn set(&mut self, place: usize, value: T)
-        ensures { values self.new ≡ slice_set (values self.old) place value }
+        ensures values { values self.new ≡ slice_set (values self.old) place value }
+        ensures outside { length (values self.old) ≤ place → self.new ≡ self.old }
     {
         if place < self.len {
             self.places[place] = value;
